@@ -22,7 +22,7 @@ use Rattle.apcu_play.specs.declared.status.Status.{Status}
 use Rattle.apcu_play.specs.declared.status.Status.TheVariants.{Done, Usage, Script, ReadFault, WriteFault, NoMemory, TooLong, TooMany, Pattern, Differs, Bundle}
 use Rattle.apcu_play.specs.Causes.{IsCause, IsCauseIn, ending_by, refuses_none, status_for}
 use Rattle.apcu_play.specs.Ended.{Sourced, Sunk, IsUnwritten, IsEnding}
-use Rattle.apcu_play.specs.Inputs.{AreTooMany, AreFew, Spells, SpellsNone, LacksBundle, IsFirstFault, IsFirstBundleFault, bundle_of}
+use Rattle.apcu_play.specs.Inputs.{AreTooMany, AreFew, Spells, SpellsNone, LacksBundle, IsFirstInputFault, IsFirstBundleFault, bundle_of}
 use Rattle.apcu_play.specs.Tasks.{longest_input, WasRead, IsCrowded, IsCrowdedTask, LeavesInput, generated_events}
 use Rattle.apcu_play.proofs.InputFaults.{whole_fault}
 use Rattle.apcu_play.proofs.TakenInput.{was_taken, none_taken}
@@ -108,7 +108,7 @@ module _ (may_refuse : Bool → List ℕ → Type 0) (conf : Conf) (task : Task)
 
   -- a fault of the scripts
   pub script_cause : (ahead : ℕ) (fault : ScriptFault) (ending : Ending) → ending ≡ ending_by Script ahead fault
-      → ((place : ℕ) (reason : Reason) → fault ≡ faults.Bad place reason → SpellsNone task bytes × IsFirstFault task bytes (ahead + place) reason)
+      → ((place : ℕ) (reason : Reason) → fault ≡ faults.Bad place reason → SpellsNone task bytes × IsFirstInputFault task bytes (ahead + place) reason)
       → IsCauseIn may_refuse conf task bytes ending
   script_cause ahead (faults.Bad place reason) ending is known =
       subst (IsCauseIn may_refuse conf task bytes) (sym is)

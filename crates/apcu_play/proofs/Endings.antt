@@ -9,7 +9,7 @@ use Rattle.notation.specs.declared.fault.Reason.{Reason}
 use Rattle.apcu_play.specs.declared.ending.Ending.{Ending}
 use Rattle.apcu_play.specs.declared.status.Status.{Status}
 use Rattle.apcu_play.specs.declared.status.Status.TheVariants.{Done, Usage, Script, ReadFault, WriteFault, NoMemory, TooLong, TooMany, Pattern, Differs, Bundle}
-use Rattle.apcu_play.specs.Ended.{Sourced, Sunk, sourced, sunk, IsUnwritten, IsEnding, HasEnded}
+use Rattle.apcu_play.specs.Ended.{Sourced, Sunk, sourced, sunk, IsUnwritten, IsEnding, RunHasEnded}
 use Rattle.apcu_play.specs.Run.{IsUnlessMemory}
 use Rattle.apcu_play.specs.Tasks.{longest_input, LeavesInput}
 use Rattle.apcu_play.proofs.TakenInput.{none_taken}
@@ -37,7 +37,7 @@ module _ (may_refuse : Bool → List ℕ → Type 0) (s : Settings) (input : Sou
       → IsEnding may_refuse s input out status place reason
       → (status ≢ TooLong → HasTakenWithin input.before input.after longest_input)
       → LeavesInput s.task status input.before input.after input.reads_before input.reads_after
-      → HasEnded may_refuse (Some s) input out (record { status = status; place = place; reason = reason })
+      → RunHasEnded may_refuse (Some s) input out (record { status = status; place = place; reason = reason })
   ended_by status e within unread = record {
     replayed = λ is. at status Done is e;
     differs = λ is. at status Differs is e;
@@ -64,13 +64,13 @@ pub ended_for : (may_refuse : Bool → List ℕ → Type 0) (told : Option Setti
     → IsEnding may_refuse s input out ending.status ending.place ending.reason
     → (ending.status ≢ TooLong → HasTakenWithin input.before input.after longest_input)
     → LeavesInput s.task ending.status input.before input.after input.reads_before input.reads_after
-    → HasEnded may_refuse told input out ending
+    → RunHasEnded may_refuse told input out ending
 ended_for may_refuse told s input out ending is e within unread =
-    subst (λ t. HasEnded may_refuse t input out ending) (sym is) (ended_by may_refuse s input out ending.place ending.reason ending.status e within unread)
+    subst (λ t. RunHasEnded may_refuse t input out ending) (sym is) (ended_by may_refuse s input out ending.place ending.reason ending.status e within unread)
 
 -- where nothing was done for these words, or for want of memory, nothing was read or written
 early : (may_refuse : Bool → List ℕ → Type 0) (told : Option Settings) (left held : Option (List ℕ)) (reads writes : ℕ) (ending : Ending) → ((x : Status) → x ≢ Usage → x ≢ NoMemory → ending.status ≢ x)
-    → (ending.status ≡ Usage → told ≡ None) → (told ≡ None → IsUnlessMemory Usage ending.status) → HasEnded may_refuse told (sourced left left reads reads) (sunk held held writes writes) ending
+    → (ending.status ≡ Usage → told ≡ None) → (told ≡ None → IsUnlessMemory Usage ending.status) → RunHasEnded may_refuse told (sourced left left reads reads) (sunk held held writes writes) ending
 early may_refuse told left held reads writes ending never usage faulty = record {
   replayed = unmet _ told (never Done (λ e. cc) (λ e. cc));
   differs = unmet _ told (never Differs (λ e. cc) (λ e. cc));
@@ -99,10 +99,10 @@ early may_refuse told left held reads writes ending never usage faulty = record 
     unread_by None = tt
     unread_by (Some s) = unread_for s.task
 
-pub ended_for_usage : (may_refuse : Bool → List ℕ → Type 0) (told : Option Settings) (left held : Option (List ℕ)) (reads writes : ℕ) (ending : Ending) → ending.status ≡ Usage → told ≡ None → HasEnded may_refuse told (sourced left left reads reads) (sunk held held writes writes) ending
+pub ended_for_usage : (may_refuse : Bool → List ℕ → Type 0) (told : Option Settings) (left held : Option (List ℕ)) (reads writes : ℕ) (ending : Ending) → ending.status ≡ Usage → told ≡ None → RunHasEnded may_refuse told (sourced left left reads reads) (sunk held held writes writes) ending
 ended_for_usage may_refuse told left held reads writes ending is none =
     early may_refuse told left held reads writes ending (λ x usage memory e. usage (cc (is, e))) (λ _. none) (λ _. inl is)
 
-pub ended_for_memory : (may_refuse : Bool → List ℕ → Type 0) (told : Option Settings) (left held : Option (List ℕ)) (reads writes : ℕ) (ending : Ending) → ending.status ≡ NoMemory → HasEnded may_refuse told (sourced left left reads reads) (sunk held held writes writes) ending
+pub ended_for_memory : (may_refuse : Bool → List ℕ → Type 0) (told : Option Settings) (left held : Option (List ℕ)) (reads writes : ℕ) (ending : Ending) → ending.status ≡ NoMemory → RunHasEnded may_refuse told (sourced left left reads reads) (sunk held held writes writes) ending
 ended_for_memory may_refuse told left held reads writes ending is =
     early may_refuse told left held reads writes ending (λ x usage memory e. memory (cc (is, e))) (λ usage. absurd (cc (is, usage))) (λ _. inr is)

@@ -11,7 +11,7 @@ use Rattle.script_read.specs.Grammar.{AreScripts}
 use Rattle.preload_set.specs.Bundle.{Record, AreRecords}
 use Rattle.preload_set.specs.Gives.{ReadsFront}
 use Rattle.preload_set.specs.Loader.{loader_of}
-use Rattle.apcu_play.specs.Inputs.{AreLoaded, AreInFront, SpellsNone, LacksBundle, IsFirstFault, IsFirstBundleFault}
+use Rattle.apcu_play.specs.Inputs.{AreLoaded, AreInFront, SpellsNone, LacksBundle, IsFirstInputFault, IsFirstBundleFault}
 
 zero_more : (n : ℕ) → 0 + n ≡ n
 zero_more n = omega arith
@@ -31,7 +31,7 @@ bundle_fault view len map bytes fault read only place reason bad = (
 -- of scripts behind a bundle
 pub behind_fault : (len : ℕ) (map : Bool) (bytes behind : List ℕ) (records : List Record) (fault : ScriptFault) → len ≤ length bytes → AreRecords (take len bytes) records → behind ≡ drop len bytes
     → ReadsScripts behind (Err fault) → ((scripts : List (List Step)) → AreScripts behind scripts → fault ≡ faults.Memory)
-    → (place : ℕ) (reason : Reason) → fault ≡ faults.Bad place reason → SpellsNone (Play (Some len) map) bytes × IsFirstFault (Play (Some len) map) bytes (len + place) reason
+    → (place : ℕ) (reason : Reason) → fault ≡ faults.Bad place reason → SpellsNone (Play (Some len) map) bytes × IsFirstInputFault (Play (Some len) map) bytes (len + place) reason
 behind_fault len map bytes behind records fault long are is read only place reason bad = (
   record { records = records; long = long; bundle = are; nothing = λ scripts spelled. not_memory place reason fault bad (only scripts (subst (λ b. AreScripts b scripts) (sym is) spelled)) },
   record { behind = place; first = subst (λ b. IsFirstScriptFault b place reason) is (subst (λ f. ReadsScripts behind (Err f)) bad read); at = refl },
@@ -39,18 +39,18 @@ behind_fault len map bytes behind records fault long are is read only place reas
 
 -- of scripts alone
 pub whole_fault : (map : Bool) (bytes : List ℕ) (fault : ScriptFault) → ReadsScripts bytes (Err fault) → ((scripts : List (List Step)) → AreScripts bytes scripts → fault ≡ faults.Memory)
-    → (place : ℕ) (reason : Reason) → fault ≡ faults.Bad place reason → SpellsNone (Play None map) bytes × IsFirstFault (Play None map) bytes (0 + place) reason
+    → (place : ℕ) (reason : Reason) → fault ≡ faults.Bad place reason → SpellsNone (Play None map) bytes × IsFirstInputFault (Play None map) bytes (0 + place) reason
 whole_fault map bytes fault read only place reason bad = (
   λ scripts are. not_memory place reason fault bad (only scripts are),
-  subst (λ n. IsFirstFault (Play None map) bytes n reason) (sym (zero_more place)) (subst (λ f. ReadsScripts bytes (Err f)) bad read),
+  subst (λ n. IsFirstInputFault (Play None map) bytes n reason) (sym (zero_more place)) (subst (λ f. ReadsScripts bytes (Err f)) bad read),
 )
 
 -- of scripts in front of an output
 pub front_fault : (len : ℕ) (bytes front : List ℕ) (fault : ScriptFault) → len ≤ length bytes → front ≡ take len bytes → ReadsScripts front (Err fault) → ((scripts : List (List Step)) → AreScripts front scripts → fault ≡ faults.Memory)
-    → (place : ℕ) (reason : Reason) → fault ≡ faults.Bad place reason → SpellsNone (Verify len) bytes × IsFirstFault (Verify len) bytes (0 + place) reason
+    → (place : ℕ) (reason : Reason) → fault ≡ faults.Bad place reason → SpellsNone (Verify len) bytes × IsFirstInputFault (Verify len) bytes (0 + place) reason
 front_fault len bytes front fault long is read only place reason bad = (
   λ scripts are. not_memory place reason fault bad (only scripts (subst (λ b. AreScripts b scripts) (sym is) are.spelled)),
-  subst (λ n. IsFirstFault (Verify len) bytes n reason) (sym (zero_more place))
+  subst (λ n. IsFirstInputFault (Verify len) bytes n reason) (sym (zero_more place))
       (inr (long, subst (λ b. IsFirstScriptFault b place reason) is (subst (λ f. ReadsScripts front (Err f)) bad read))),
 )
 

@@ -15,7 +15,7 @@ use Rattle.apcu_play.specs.declared.status.Status.{Status}
 use Rattle.apcu_play.specs.declared.status.Status.TheVariants.{Done, Usage, Script, ReadFault, WriteFault, NoMemory, TooLong, TooMany, Pattern, Differs, Bundle}
 use Rattle.apcu_play.specs.Inputs.{AreTooMany, AreFew, Spells, SpellsNone, LacksBundle, bundle_of}
 use Rattle.apcu_play.specs.Tasks.{longest_input, WasRead, IsRefused, IsUnloaded, IsCrowded, IsUnsearchable}
-use Rattle.apcu_play.specs.Run.{IsUnlessMemory, IsAnswered, CompletesInput}
+use Rattle.apcu_play.specs.Run.{IsUnlessMemory, IsWrittenWhole, CompletesInput}
 use Rattle.apcu_play.proofs.SpelledInputs.{one_spelled, none_spelled, loaded_spelled, loaded_none, few_many}
 
 all_read : (left input : List ℕ) (after : Option (List ℕ)) → Some left ≡ prepend_known input after → IsAtEnd after → left ≡ input
@@ -32,12 +32,12 @@ longer_is : (left : List ℕ) (before : Option (List ℕ)) → before ≡ Some l
 longer_is left before told longer = subst (λ (o : Option (List ℕ)). IfSome o (λ l. longest_input < length l)) told longer
 
 -- an answer that was written whole, and none for want of memory
-answered_done : (task : Task) → IsAnswered task Done
+answered_done : (task : Task) → IsWrittenWhole task Done
 answered_done (Play bundle map) = inl refl
 answered_done (Generate seed crew each) = inl refl
 answered_done (Verify len) = inr (inl refl)
 
-answered_memory : (task : Task) → IsAnswered task NoMemory
+answered_memory : (task : Task) → IsWrittenWhole task NoMemory
 answered_memory (Play bundle map) = inr refl
 answered_memory (Generate seed crew each) = inr refl
 answered_memory (Verify len) = inr (inr refl)
@@ -54,7 +54,7 @@ module _ (one : ScriptsAreOne) (bundles : BundlesAreOne) (may_refuse : Bool → 
   -- what is known of how a run ended
   pub record Ended (status : Status) : Type 0 where
     pub done : status ≡ Done → Spelled task before after (AreFew (bundle_of task) conf)
-    pub differs : status ≡ Differs → Spelled task before after (AreFew (bundle_of task) conf) × IsAnswered task Differs
+    pub differs : status ≡ Differs → Spelled task before after (AreFew (bundle_of task) conf) × IsWrittenWhole task Differs
     pub cut : status ≡ WriteFault → Spelled task before after (AreFew (bundle_of task) conf)
     pub usage : status ≢ Usage
     pub script : status ≡ Script → IsRefused task before after
@@ -98,7 +98,7 @@ module _ (one : ScriptsAreOne) (bundles : BundlesAreOne) (may_refuse : Bool → 
       (subst (λ (i : List ℕ). length i ≤ longest_input) (sym same) r.at.read.short, subst (LacksBundle task) (sym same) r.at.nothing)
 
   done_by : (status : Status) → Ended status → (input : List ℕ) (scripts : List (List Step)) → before ≡ Some input → length input ≤ longest_input → Spells task input scripts
-      → AreFew (bundle_of task) conf scripts → ¬ SomeRefusable may_refuse scripts → ¬ Rose reads_before reads_after → ¬ Rose writes_before writes_after → IsAnswered task status
+      → AreFew (bundle_of task) conf scripts → ¬ SomeRefusable may_refuse scripts → ¬ Rose reads_before reads_after → ¬ Rose writes_before writes_after → IsWrittenWhole task status
   done_by Done e input scripts told short are few plain no_read no_write = answered_done task
   done_by Usage e input scripts told short are few plain no_read no_write = absurd (e.usage refl)
   done_by Script e input scripts told short are few plain no_read no_write = absurd (none_spelled task input scripts are (refused_is input told (e.script refl)).1)

@@ -15,7 +15,7 @@ use Rattle.run_verify.specs.declared.verifying.Verdict.TheVariants.{Yes, NoJourn
 use Rattle.apcu_play.specs.declared.ending.Ending.{Ending}
 use Rattle.apcu_play.specs.declared.status.Status.{Status}
 use Rattle.apcu_play.specs.declared.status.Status.TheVariants.{Done, Usage, Script, ReadFault, WriteFault, NoMemory, TooLong, TooMany, Pattern, Differs, Bundle}
-use Rattle.apcu_play.specs.Ended.{Sourced, Sunk, HasEnded}
+use Rattle.apcu_play.specs.Ended.{Sourced, Sunk, RunHasEnded}
 use Rattle.apcu_play.specs.Inputs.{AreFew}
 use Rattle.apcu_play.specs.Tasks.{longest_input, AnswersInput, AnswersOutput, AnswersTask, AnswersSeed, IsRefused, IsRefusedAt, IsUnloaded, IsUnloadedAt, IsCrowdedTask, IsUnsearchable, IsUnread, LeavesInput, generated_events}
 use Rattle.apcu_play.specs.Message.{script_message, bundle_message}
@@ -139,7 +139,7 @@ unloaded_of : (s : Settings) (input : Sourced) (ending : Ending) → (ending.sta
 unloaded_of s input ending at is = record { place = ending.place; reason = ending.reason; at = at is }
 
 -- what the words ask for, if they are in order
-pub completes_if : (one : ScriptsAreOne) (bundles : BundlesAreOne) (may_refuse : Bool → List ℕ → Type 0) (told : Option Settings) (input : Sourced) (out : Sunk) (ending : Ending) → HasEnded may_refuse told input out ending
+pub completes_if : (one : ScriptsAreOne) (bundles : BundlesAreOne) (may_refuse : Bool → List ℕ → Type 0) (told : Option Settings) (input : Sourced) (out : Sunk) (ending : Ending) → RunHasEnded may_refuse told input out ending
     → IfSome told (λ s. Completes may_refuse s ending.status input.before input.reads_before input.reads_after out.writes_before out.writes_after)
 completes_if one bundles may_refuse None input out ending e = tt
 completes_if one bundles may_refuse (Some s) input out ending e =

@@ -76,7 +76,7 @@ IsEnding may_refuse s input out Pattern place reason =
 IsEnding may_refuse s input out Usage place reason = ⊥
 
 -- how a run has ended for these words, in order or not
-pub record HasEnded (may_refuse : Bool → List ℕ → Type 0) (parsed : Option Settings)
+pub record RunHasEnded (may_refuse : Bool → List ℕ → Type 0) (parsed : Option Settings)
     (input : Sourced) (out : Sunk) (ending : Ending) : Type 0 where
   pub replayed : IfSome parsed (λ s. ending.status ≡ Done
       → Replays s Done input.before input.after out.before out.after)

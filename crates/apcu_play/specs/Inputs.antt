@@ -99,10 +99,10 @@ IsCrewFault None input place reason = IsFirstScriptFault input place reason
 IsCrewFault (Some len) input place reason = IsFaultBehind len input place reason
 
 -- The first fault of the scripts, from left to right; places count from the input's start.
-abbrev pub IsFirstFault : Task → List ℕ → ℕ → Reason → Type 0
-IsFirstFault (Play bundle map) input place reason = IsCrewFault bundle input place reason
-IsFirstFault (Generate seed crew each) input place reason = ⊥
-IsFirstFault (Verify len) input place reason = IsFaultInFront len input place reason
+abbrev pub IsFirstInputFault : Task → List ℕ → ℕ → Reason → Type 0
+IsFirstInputFault (Play bundle map) input place reason = IsCrewFault bundle input place reason
+IsFirstInputFault (Generate seed crew each) input place reason = ⊥
+IsFirstInputFault (Verify len) input place reason = IsFaultInFront len input place reason
 
 -- ---- no bundle
 

@@ -17,9 +17,9 @@ use Rattle.apcu_play.specs.declared.status.Status.{Status}
 use Rattle.apcu_play.specs.Tasks.{LoadsFirst, played_text, verdict_text, ending_for}
 
 -- what stands behind the workers' lines: the journal's, and the map of the cache where one is left
-abbrev pub rest_of : List Mark → Option Left → List ℕ
-rest_of marks None = journal_lines marks
-rest_of marks (Some left) = journal_lines marks ++ map_text (cache_of left.core)
+abbrev pub printed_rest : List Mark → Option Left → List ℕ
+printed_rest marks None = journal_lines marks
+printed_rest marks (Some left) = journal_lines marks ++ map_text (cache_of left.core)
 
 -- This is printed of some journal of the crew that is legal and complete, with a loader first where
 -- a bundle is loaded, and with a map behind it or without.

@@ -101,10 +101,10 @@ abbrev pub IsUnlessMemory : Status → Status → Type 0
 IsUnlessMemory expected status = (status ≡ expected) ⊎ (status ≡ NoMemory)
 
 -- an answer was written whole, if memory was found: a verdict is that of an output, or of none
-abbrev pub IsAnswered : Task → Status → Type 0
-IsAnswered (Play bundle map) status = IsUnlessMemory Done status
-IsAnswered (Generate seed crew each) status = IsUnlessMemory Done status
-IsAnswered (Verify len) status = (status ≡ Differs) ⊎ IsUnlessMemory Done status
+abbrev pub IsWrittenWhole : Task → Status → Type 0
+IsWrittenWhole (Play bundle map) status = IsUnlessMemory Done status
+IsWrittenWhole (Generate seed crew each) status = IsUnlessMemory Done status
+IsWrittenWhole (Verify len) status = (status ≡ Differs) ⊎ IsUnlessMemory Done status
 
 -- What a run that reads its input must come to on this cache, where its source tells and no fault
 -- was counted. It is answered only where no pattern of the scripts may be refused.
@@ -116,7 +116,7 @@ pub record CompletesInput
       → left_before ≡ Some input → length input ≤ longest_input → Spells task input scripts
       → AreFew (bundle_of task) conf scripts → ¬ SomeRefusable may_refuse scripts
       → ¬ Rose reads_before reads_after → ¬ Rose writes_before writes_after
-      → IsAnswered task status
+      → IsWrittenWhole task status
   pub too_many : (input : List ℕ) (scripts : List (List Step))
       → left_before ≡ Some input → length input ≤ longest_input → Spells task input scripts
       → AreTooMany (bundle_of task) conf scripts

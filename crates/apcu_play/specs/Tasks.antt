@@ -14,7 +14,7 @@ use Rattle.script_read.specs.declared.script.Step.{Step}
 use Rattle.script_read.specs.Budgets.{most_events}
 use Rattle.script_read.specs.Clock.{all_timed}
 use Rattle.script_read.specs.Patterns.{SomeRefusable}
-use Rattle.script_read.specs.Play.{Play as Played, played, IsLegal, IsCompletePlay}
+use Rattle.script_read.specs.Play.{Play as JournalPlay, played, IsLegal, IsCompletePlay}
 use Rattle.reply_text.specs.Output.{output_of}
 use Rattle.play_laws.specs.Summary.{Summary, summary_text}
 use Rattle.run_verify.specs.declared.verifying.Verdict.{Verdict}
@@ -28,7 +28,7 @@ use Rattle.apcu_play.specs.declared.status.Status.{Status}
 use Rattle.apcu_play.specs.declared.status.Status.TheVariants.{Done, Script, ReadFault, TooLong}
 use Rattle.apcu_play.specs.declared.status.Status.TheVariants.{Pattern, Differs}
 use Rattle.apcu_play.specs.Inputs.{AreCrew, AreInFront, AreTooMany, AreFew, Spells, SpellsNone}
-use Rattle.apcu_play.specs.Inputs.{LacksBundle, IsFirstFault, IsFirstBundleFault, bundle_of}
+use Rattle.apcu_play.specs.Inputs.{LacksBundle, IsFirstInputFault, IsFirstBundleFault, bundle_of}
 
 -- ---- the input
 
@@ -67,15 +67,15 @@ LoadsFirst None crew journal = Unit {0}
 LoadsFirst (Some len) crew journal = ComeFirst (length crew - 1) journal
 
 -- the map of the cache after a journal that can be played
-abbrev pub map_after : Option Played → List ℕ
-map_after None = []
-map_after (Some p) = map_text p.stage.cache
+abbrev pub map_text_after : Option JournalPlay → List ℕ
+map_text_after None = []
+map_text_after (Some p) = map_text p.stage.cache
 
 -- the output of a journal, and behind it the map of the cache after it, where a map is wanted
 abbrev pub played_text : Bool → Conf → List (List Step) → List Mark → List ℕ
 played_text false conf crew journal = output_of conf crew journal
 played_text true conf crew journal =
-    output_of conf crew journal ++ map_after (played conf crew journal)
+    output_of conf crew journal ++ map_text_after (played conf crew journal)
 
 -- The whole input spells these scripts, and this is the output of a journal that is legal and
 -- complete for them as the clock sees them: each event once, in its worker's order, with the reply
@@ -157,7 +157,7 @@ pub record IsRefusedAt (task : Task)
   pub input : List ℕ
   pub read : WasRead left_before left_after input
   pub nothing : SpellsNone task input
-  pub first : IsFirstFault task input place reason
+  pub first : IsFirstInputFault task input place reason
 
 pub record IsRefused (task : Task) (left_before left_after : Option (List ℕ)) : Type 0 where
   pub place : ℕ

@@ -9,7 +9,7 @@ ghost use Rattle.script_read.specs.Patterns.{SomeRefusable};
 ghost use Rattle.crew_play.specs.declared.play.CrewFault.TheVariants.{TooMany, Pattern};
 ghost use Rattle.play_laws.specs.Summary.{IsLarge};
 ghost use Rattle.apcu_play.specs.Tasks.{AnswersSeed, generated_events};
-ghost use Rattle.apcu_play.specs.Printing.{PrintsCrew, rest_of};
+ghost use Rattle.apcu_play.specs.Printing.{PrintsCrew, printed_rest};
 ghost use Rattle.reply_text.specs.Output.{worker_texts};
 
 use crate::journal::write_journal;
@@ -42,7 +42,7 @@ pub(crate) struct Printed {
 fn printed_of(alloc: Global, played: Played) -> Result<Printed, AllocError>
     requires stand { IfSome played.left (λ l. CacheStands held.ghosts l.core l.words) }
     ensures texts { IfOk result (λ p. p.texts.items ≡ played.texts.items) }
-    ensures rest { IfOk result (λ p. p.rest ≡ rest_of played.journal.marks played.left) }
+    ensures rest { IfOk result (λ p. p.rest ≡ printed_rest played.journal.marks played.left) }
     ensures ends { IfOk result (λ p. p.ends ≡ Status.Done) }
 {
     let Played {

@@ -6,7 +6,7 @@ ghost use Rattle.io_edges.specs.Reading.{HasTaken, HasTakenWithin};
 ghost use Rattle.apcu_model.specs.Conf.{IsGood};
 ghost use Rattle.conf_read.specs.Options.{settings_of};
 ghost use Rattle.conf_read.specs.Tasks.{SuitsTask};
-ghost use Rattle.apcu_play.specs.Ended.{sourced, sunk, IsEnding, HasEnded};
+ghost use Rattle.apcu_play.specs.Ended.{sourced, sunk, IsEnding, RunHasEnded};
 ghost use Rattle.apcu_play.specs.Message.{message_of};
 ghost use Rattle.apcu_play.specs.Tasks.{longest_input, IsRefused, IsUnloaded, IsCrowdedTask};
 ghost use Rattle.apcu_play.specs.Tasks.{IsUnsearchable, LeavesInput};
@@ -69,7 +69,7 @@ fn outcome<R: Threads + Wait + Sync, S: Source, K: Sink, M: Maker + Sync, G: Gat
     maker: &M,
     gate: &G,
 ) -> Ending
-    ensures { HasEnded (M.may_refuse maker.now) (settings_of words.now)
+    ensures { RunHasEnded (M.may_refuse maker.now) (settings_of words.now)
         (sourced (S.left input.old) (S.left input.new) (S.faults input.old) (S.faults input.new))
         (sunk (K.held out.old) (K.held out.new) (K.faults out.old) (K.faults out.new)) result }
 {

@@ -7,7 +7,7 @@ use Rattle.apcu_model.specs.declared.request.Request.{Request}
 use Rattle.apcu_model.specs.declared.request.Request.TheVariants as requests
 use Rattle.cache_c.specs.declared.asking.Ask.{Ask}
 use Rattle.cache_c.specs.declared.asking.TheConstants as asking
-use Rattle.cache_c.specs.Asked.{asked_for, request_of, stored, value_of, is_short}
+use Rattle.cache_c.specs.Asked.{asked_for, request_of, store_if_value, value_of, is_short}
 
 -- keys and strings that are not too long
 pub asked_short : (ask : Ask) (key bytes : List ℕ) → length key < 2 ^ 32 → length bytes < 2 ^ 32 → asked_for ask key bytes ≡ request_of ask key bytes
@@ -17,8 +17,8 @@ asked_short ask key bytes k b =
 
 abbrev by_kind : ℕ → Ask → List ℕ → List ℕ → Result Request ℕ
 by_kind kind ask key bytes =
-    if kind == asking.STORE then stored key ask.ttl false (value_of ask.value ask.number bytes) else
-    if kind == asking.ADD then stored key ask.ttl true (value_of ask.value ask.number bytes) else
+    if kind == asking.STORE then store_if_value key ask.ttl false (value_of ask.value ask.number bytes) else
+    if kind == asking.ADD then store_if_value key ask.ttl true (value_of ask.value ask.number bytes) else
     if kind == asking.LOOK then Ok (requests.Fetch key) else
     if kind == asking.EXISTS then Ok (requests.Exists key) else
     if kind == asking.DELETE then Ok (requests.Delete key) else

@@ -29,7 +29,7 @@ use Rattle.cache_c.specs.declared.values.TheConstants as values
 use Rattle.cache_c.specs.Seats.{HeldImage, held_image}
 use Rattle.cache_c.specs.declared.asking.Ask.{Ask}
 use Rattle.cache_c.specs.declared.asking.TheConstants as asking
-use Rattle.cache_c.specs.Standing.{IsStanding, IsHeld, IsLeft, StandAt, words_of, seats_of}
+use Rattle.cache_c.specs.Standing.{StandsForCache, IsHeld, LeavesHeld, StandAt, cache_words, seats_of}
 use Rattle.cache_c.specs.Asked.{IsValueBy, IsBlockOf, TakesSeat, KeepsSeats, HasLetGo}
 use Rattle.cache_c.proofs.Standing.{words_short, held_beside}
 use Rattle.cache_c.proofs.Seats.{image_words}
@@ -38,14 +38,14 @@ use Rattle.cache_c.proofs.Seats.{image_words}
 pub record RowBlock (cache : Cache) (key : List ℕ) (at : ℕ) (row : Row) : Type 0 where
   pub positive : 0 < at
   pub there : has_place at (listed (entries cache.core.slots)) ≡ true
-  pub place : at + HEAD_WORDS + words_in (length key) ≡ image_place (words_of cache) at
-  pub length_is : slice_index (words_of cache) (at + IMAGE_LENGTH) ≡ image_length row.graph
-  pub told : IsToldImage (words_of cache) [] (image_place (words_of cache) at) row.graph
-  pub inside : image_end (words_of cache) at ≤ length (words_of cache)
+  pub place : at + HEAD_WORDS + words_in (length key) ≡ image_place (cache_words cache) at
+  pub length_is : slice_index (cache_words cache) (at + IMAGE_LENGTH) ≡ image_length row.graph
+  pub told : IsToldImage (cache_words cache) [] (image_place (cache_words cache) at) row.graph
+  pub inside : image_end (cache_words cache) at ≤ length (cache_words cache)
 
-pub row_block : (cache : Cache) (key : List ℕ) (at : ℕ) (row : Row) → IsStanding cache → IsRowOf (cache_of cache.core) key at row → RowBlock cache key at row
+pub row_block : (cache : Cache) (key : List ℕ) (at : ℕ) (row : Row) → StandsForCache cache → IsRowOf (cache_of cache.core) key at row → RowBlock cache key at row
 row_block cache key at row stand is =
-    let words = words_of cache in
+    let words = cache_words cache in
     let s = entries cache.core.slots in
     let there : has_place at (listed s) ≡ true = any_from (is_at at) (listed s) row (Contains-append_left s.rows s.removed row is.there) (eq-eqb row.place at is.place) in
     let entry : IsEntry words row = stand.alone.stand.rows row is.there in
@@ -78,10 +78,10 @@ text_in words (kinds.Object class ps ∷ ks) a told text = absurd (omega (arith,
 text_in words (kinds.Same x ∷ ks) a told text = absurd (omega (arith, told, text))
 
 -- the answer about a row whose block is at a place
-pub block_of : (cache : Cache) (key : List ℕ) (at : ℕ) (row : Row) (a : Answer) → IsStanding cache → IsRowOf (cache_of cache.core) key at row → IsValueBy (words_of cache) row.graph a
-    → (a.kind ≡ values.STR → a.place ≡ image_place (words_of cache) at + 1) → IsBlockOf cache at a
+pub block_of : (cache : Cache) (key : List ℕ) (at : ℕ) (row : Row) (a : Answer) → StandsForCache cache → IsRowOf (cache_of cache.core) key at row → IsValueBy (cache_words cache) row.graph a
+    → (a.kind ≡ values.STR → a.place ≡ image_place (cache_words cache) at + 1) → IsBlockOf cache at a
 block_of cache key at row a stand is told placed =
-    let words = words_of cache in
+    let words = cache_words cache in
     let block = row_block cache key at row stand is in
     let p = image_place words at in
     let m = slice_index words (at + IMAGE_LENGTH) in
@@ -109,14 +109,14 @@ block_of cache key at row a stand is told placed =
 
 -- ---- a seat that is taken
 
-held_taken : {mid new : Cache} (seat at : ℕ) (a : Answer) → seat < 64 → length (seats_of mid) ≡ 64 → 0 < at → a.kind ≡ values.STR → IsBlockOf mid at a → words_of new ≡ words_of mid → seats_of new ≡ slice_set (seats_of mid) seat at
-    → (bytes : List ℕ) → length bytes ≡ a.len → StandAt (words_of new) a.place bytes → IsHeld new seat a.place bytes
+held_taken : {mid new : Cache} (seat at : ℕ) (a : Answer) → seat < 64 → length (seats_of mid) ≡ 64 → 0 < at → a.kind ≡ values.STR → IsBlockOf mid at a → cache_words new ≡ cache_words mid → seats_of new ≡ slice_set (seats_of mid) seat at
+    → (bytes : List ℕ) → length bytes ≡ a.len → StandAt (cache_words new) a.place bytes → IsHeld new seat a.place bytes
 held_taken {mid} {new} seat at a low all some text block words seats bytes count stand =
     let is : slice_index (seats_of new) seat ≡ at = ap (λ (l : List ℕ). slice_index l seat) seats ∙ get_or-set_same (seats_of mid) seat at 0 (omega (arith, low, all)) in
-    let same : held_image (words_of new) (slice_index (seats_of new) seat) ≡ held_image (words_of mid) at = ap (λ (ws : List ℕ). held_image ws (slice_index (seats_of new) seat)) words ∙ ap (held_image (words_of mid)) is in
-    let place : (held_image (words_of mid) at).place ≡ image_place (words_of mid) at = ap (λ (i : HeldImage). i.place) (image_words (words_of mid) at some) in
-    let front : (held_image (words_of mid) at).place ≤ a.place = omega (arith, place, block.place text) in
-    let back : a.place + words_in (length bytes) ≤ (held_image (words_of mid) at).place + length (held_image (words_of mid) at).words = omega (arith, place, block.place text, block.long text, ap words_in count) in
+    let same : held_image (cache_words new) (slice_index (seats_of new) seat) ≡ held_image (cache_words mid) at = ap (λ (ws : List ℕ). held_image ws (slice_index (seats_of new) seat)) words ∙ ap (held_image (cache_words mid)) is in
+    let place : (held_image (cache_words mid) at).place ≡ image_place (cache_words mid) at = ap (λ (i : HeldImage). i.place) (image_words (cache_words mid) at some) in
+    let front : (held_image (cache_words mid) at).place ≤ a.place = omega (arith, place, block.place text) in
+    let back : a.place + words_in (length bytes) ≤ (held_image (cache_words mid) at).place + length (held_image (cache_words mid) at).words = omega (arith, place, block.place text, block.long text, ap words_in count) in
     record {
       some = subst (λ (n : ℕ). 0 < n) (sym is) some;
       low = subst (λ (i : HeldImage). i.place ≤ a.place) (sym same) front;
@@ -125,7 +125,7 @@ held_taken {mid} {new} seat at a low all some text block words seats bytes count
     }
 
 pub seats_kept : {old mid new : Cache} (ask : Ask) (seat least at : ℕ) (a : Answer) → ask.kind ≡ asking.HOLD → ask.number ≡ seat → ask.set ≡ least → seat < 64 → a.kind ≡ values.STR → least ≤ a.len → length (seats_of mid) ≡ 64 → 0 < at
-    → IsLeft old mid → IsBlockOf mid at a → words_of new ≡ words_of mid → seats_of new ≡ slice_set (seats_of mid) seat at → KeepsSeats ask old new a
+    → LeavesHeld old mid → IsBlockOf mid at a → cache_words new ≡ cache_words mid → seats_of new ≡ slice_set (seats_of mid) seat at → KeepsSeats ask old new a
 seats_kept {old} {mid} {new} ask seat least at a kind number set low text long all some left block words seats =
     let takes : (other : ℕ) → other ≡ seat → TakesSeat ask a other = λ other e. record { hold = kind; number = number ∙ sym e; some = omega (arith, e, low); text = text; long = omega (arith, set, long) } in
     record {
@@ -137,7 +137,7 @@ seats_kept {old} {mid} {new} ask seat least at a kind number set low text long a
     }
 
 -- none is
-pub seats_left : {old new : Cache} (ask : Ask) (a : Answer) → ((seat : ℕ) → TakesSeat ask a seat → ⊥) → IsLeft old new → KeepsSeats ask old new a
+pub seats_left : {old new : Cache} (ask : Ask) (a : Answer) → ((seat : ℕ) → TakesSeat ask a seat → ⊥) → LeavesHeld old new → KeepsSeats ask old new a
 seats_left ask a none left = record {
   taken = λ seat bytes takes count stand. absurd (none seat takes);
   others = λ seat place bytes no h. left.held seat place bytes h;
@@ -145,7 +145,7 @@ seats_left ask a none left = record {
 }
 
 -- a seat is let go
-pub let_go : {old new : Cache} (seat : ℕ) → seat < 64 → length (seats_of old) ≡ 64 → new.core ≡ old.core → words_of new ≡ words_of old → seats_of new ≡ slice_set (seats_of old) seat 0 → HasLetGo old new seat true
+pub let_go : {old new : Cache} (seat : ℕ) → seat < 64 → length (seats_of old) ≡ 64 → new.core ≡ old.core → cache_words new ≡ cache_words old → seats_of new ≡ slice_set (seats_of old) seat 0 → HasLetGo old new seat true
 let_go {old} {new} seat low all core words seats = record {
   core = core;
   words = words;

@@ -7,7 +7,7 @@ use Rattle.cache_core.specs.CoreCache.{cache_of}
 use Rattle.cache_c.specs.declared.cache.Cache.{Cache}
 use Rattle.cache_c.specs.declared.making.Shape.{Shape}
 use Rattle.cache_c.specs.declared.making.TheConstants.{BAD_SHAPE, NO_ROOM}
-use Rattle.cache_c.specs.Standing.{IsStanding, seats_of}
+use Rattle.cache_c.specs.Standing.{StandsForCache, seats_of}
 
 -- the shape that is asked for
 abbrev pub conf_of : Shape → Conf
@@ -20,7 +20,7 @@ conf_of shape = record {
 
 -- its words stand for the empty cache of this shape, and no seat holds a block
 pub record IsEmpty (conf : Conf) (cache : Cache) : Type 0 where
-  pub stand : IsStanding cache
+  pub stand : StandsForCache cache
   pub empty : cache_of cache.core ≡ empty_cache conf
   pub seats : seats_of cache ≡ replicate 64 0
 

@@ -16,7 +16,7 @@ use Rattle.cache_c.specs.declared.rows.ToldRow.{ToldRow}
 use Rattle.cache_c.specs.contracts.counts.Gap.{the_row as gap_type}
 use Rattle.cache_c.specs.contracts.rows.ToldRow.{the_row as row_type}
 use Rattle.cache_c.specs.contracts.cache.Cache.{the_row}
-use Rattle.cache_c.specs.Standing.{IsStanding, IsKept, words_of}
+use Rattle.cache_c.specs.Standing.{StandsForCache, StandsUnchanged, cache_words}
 use Rattle.cache_c.specs.declared.making.Shape.{Shape}
 use Rattle.cache_c.specs.declared.making.TheConstants.{MADE}
 use Rattle.cache_c.specs.Asked.{asked_for, IsAnswered, HasCopied, HasLetGo, KeepsSeats}
@@ -32,7 +32,7 @@ lies at cache = lies_at the_row full_share at cache
 
 -- and its words stand for it
 abbrev pub stands_at : Ptr → Cache → Fml
-stands_at at cache = fsep (lies at cache) (fex (IsStanding cache) (λ _. ftrue))
+stands_at at cache = fsep (lies at cache) (fex (StandsForCache cache) (λ _. ftrue))
 
 -- It stands there still, and this call was its last event, with what was asked for and the reply
 -- that the answer tells; or the answer says that it was none, and nothing changed. What seats held
@@ -71,12 +71,13 @@ bytes_at at len bytes =
 abbrev pub has_copied : Cache → List ℕ → Ptr → ℕ → Ptr → ℕ → Bool → Fml
 has_copied old before at place out len done =
     fex (Cache × List ℕ) (λ new. fsep (stands_at at new.0) (fsep (bytes_at out len new.1)
-    (fex (IsKept old new.0 × HasCopied (words_of old) place before new.1 done) (λ _. ftrue))))
+    (fex (StandsUnchanged old new.0 × HasCopied (cache_words old) place before new.1 done)
+    (λ _. ftrue))))
 
 -- The cache stands there as it was, and what was told of it is so.
 abbrev pub has_told : Cache → Ptr → (Cache → Type 0) → Fml
 has_told old at Told = fex Cache (λ new. fsep (stands_at at new)
-    (fex (IsKept old new × Told new) (λ _. ftrue)))
+    (fex (StandsUnchanged old new × Told new) (λ _. ftrue)))
 
 -- so of its counts
 abbrev pub has_counted : Cache → Ptr → ToldCounts → Fml
@@ -84,7 +85,7 @@ has_counted old at counts = has_told old at (λ new. counts ≡ counts_told (cac
 
 -- of the row of a key
 abbrev pub has_found : Cache → Ptr → List ℕ → ℕ → ToldRow → Fml
-has_found old at key t row = has_told old at (λ new. IsFoundBy (words_of new) (cache_of old.core)
+has_found old at key t row = has_told old at (λ new. IsFoundBy (cache_words new) (cache_of old.core)
     key (found_row key t (cache_of old.core)) row)
 
 -- so many rows lie there
@@ -97,7 +98,7 @@ rows_at at room rows =
 abbrev pub has_listed : Cache → List ToldRow → Ptr → ℕ → ℕ → Ptr → ℕ → ℕ → Fml
 has_listed old before at slot skip out room count =
     fex (Cache × List ToldRow) (λ new. fsep (stands_at at new.0) (fsep (rows_at out room new.1)
-    (fex (IsKept old new.0 × AreListedBy (words_of new.0) slot
+    (fex (StandsUnchanged old new.0 × AreListedBy (cache_words new.0) slot
     (drop skip (rows_of (cache_of old.core) slot)) before new.1 count) (λ _. ftrue))))
 
 -- so many gaps lie there
@@ -109,5 +110,5 @@ gaps_at at room gaps =
 abbrev pub has_gaps : Cache → List Gap → Ptr → ℕ → Ptr → ℕ → ℕ → Fml
 has_gaps old before at from out room count =
     fex (Cache × List Gap) (λ new. fsep (stands_at at new.0) (fsep (gaps_at out room new.1)
-    (fex (IsKept old new.0 × AreGapsBy (gaps_from from (gaps_of (cache_of old.core)))
+    (fex (StandsUnchanged old new.0 × AreGapsBy (gaps_from from (gaps_of (cache_of old.core)))
     before new.1 count) (λ _. ftrue))))

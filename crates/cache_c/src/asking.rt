@@ -12,8 +12,10 @@ ghost use Rattle.apcu_model.specs.Cache.{Row};
 ghost use Rattle.seg_words.specs.Blocks.{image_place};
 ghost use Rattle.cache_core.specs.Looking.{scalar_of, IsRowOf};
 ghost use Rattle.cache_core.specs.CoreCache.{cache_of};
-ghost use Rattle.cache_c.specs.Standing.{IsStanding, IsLeft, IsKept, IsBegun, words_of, seats_of};
-ghost use Rattle.cache_c.specs.Asked.{asked_for, request_of, stored, value_of, scalar_value};
+ghost use Rattle.cache_c.specs.Standing.{StandsForCache, LeavesHeld, StandsUnchanged, BeginsEvent};
+ghost use Rattle.cache_c.specs.Standing.{cache_words, seats_of};
+ghost use Rattle.cache_c.specs.Asked.{asked_for, request_of, store_if_value, value_of};
+ghost use Rattle.cache_c.specs.Asked.{scalar_value};
 ghost use Rattle.cache_c.specs.Asked.{IsAnswered, IsDone, IsToldBy, IsValueBy, IsScalarBy};
 ghost use Rattle.cache_c.specs.Asked.{KeepsSeats, HasLetGo, IsBlockOf};
 ghost use Rattle.cache_c.specs.Asked.{plain_answer};
@@ -182,8 +184,8 @@ impl Cache {
     /// One event: what is asked, its key, and the bytes of the value that is stored. What seats
     /// hold stands where it stood, but for the seat that a `HOLD` takes.
     pub(crate) fn ask(&mut self, ask: &Ask, key: &[u8], bytes: &[u8]) -> Answer
-        requires stand { IsStanding self.old }
-        ensures stand { IsStanding self.new }
+        requires stand { StandsForCache self.old }
+        ensures stand { StandsForCache self.new }
         ensures answered { IsAnswered self.old self.new ask.now.t
             (asked_for ask.now key.now bytes.now) result }
         ensures seats { KeepsSeats ask.now self.old self.new result }
@@ -202,8 +204,8 @@ impl Cache {
         requires short { length key.now < 2 ^ 32 }
         requires value { length bytes.now < 2 ^ 32 }
         requires other { ask.now.kind ≢ HOLD }
-        requires stand { IsStanding self.old }
-        ensures left { IsLeft self.old self.new }
+        requires stand { StandsForCache self.old }
+        ensures left { LeavesHeld self.old self.new }
         ensures answered { IsAnswered self.old self.new ask.now.t
             (request_of ask.now key.now bytes.now) result }
     {
@@ -227,8 +229,8 @@ impl Cache {
 
     // Begins an event that may drop rows.
     fn begin(&mut self)
-        requires stand { IsStanding self.old }
-        ensures begun { IsBegun self.old self.new }
+        requires stand { StandsForCache self.old }
+        ensures begun { BeginsEvent self.old self.new }
     {
         self.words.begin();
     }
@@ -246,10 +248,11 @@ impl Cache {
     ) -> u32
         requires short { length key.now < 2 ^ 32 }
         requires value { length bytes.now < 2 ^ 32 }
-        requires stand { IsStanding self.old }
-        ensures left { IsLeft self.old self.new }
+        requires stand { StandsForCache self.old }
+        ensures left { LeavesHeld self.old self.new }
         ensures answered { IsAnswered self.old self.new t
-            (stored key.now ttl exclusive (value_of kind number bytes.now)) (plain_answer result) }
+            (store_if_value key.now ttl exclusive (value_of kind number bytes.now))
+            (plain_answer result) }
     {
         if kind == STR {
             return self.store_text(key, bytes, ttl, exclusive, t);
@@ -261,8 +264,8 @@ impl Cache {
     fn store_text(&mut self, key: &[u8], bytes: &[u8], ttl: u32, exclusive: bool, t: u64) -> u32
         requires short { length key.now < 2 ^ 32 }
         requires value { length bytes.now < 2 ^ 32 }
-        requires stand { IsStanding self.old }
-        ensures left { IsLeft self.old self.new }
+        requires stand { StandsForCache self.old }
+        ensures left { LeavesHeld self.old self.new }
         ensures done { IsDone self.old self.new t
             (requests.Store key.now (Str bytes.now ∷ []) ttl exclusive) (plain_answer result) }
     {
@@ -284,10 +287,11 @@ impl Cache {
         t: u64,
     ) -> u32
         requires short { length key.now < 2 ^ 32 }
-        requires stand { IsStanding self.old }
-        ensures left { IsLeft self.old self.new }
+        requires stand { StandsForCache self.old }
+        ensures left { LeavesHeld self.old self.new }
         ensures answered { IsAnswered self.old self.new t
-            (stored key.now ttl exclusive (scalar_value kind number)) (plain_answer result) }
+            (store_if_value key.now ttl exclusive (scalar_value kind number))
+            (plain_answer result) }
     {
         let Some(value) = scalar_from(self.alloc, kind, number) else {
             return BAD;
@@ -303,8 +307,8 @@ impl Cache {
     // scalar, else 0.
     fn look(&mut self, key: &[u8], t: u64) -> (Answer, u32)
         requires short { length key.now < 2 ^ 32 }
-        requires stand { IsStanding self.old }
-        ensures left { IsLeft self.old self.new }
+        requires stand { StandsForCache self.old }
+        ensures left { LeavesHeld self.old self.new }
         ensures done { IsDone self.old self.new t (requests.Fetch key.now) result.0 }
         ensures block { 0 < result.1 → IsBlockOf self.new result.1 result.0 }
         ensures text { result.0.kind ≡ STR → 0 < result.1 }
@@ -320,8 +324,8 @@ impl Cache {
     // now on.
     fn hold(&mut self, key: &[u8], seat: u64, least: u64, t: u64) -> Answer
         requires short { length key.now < 2 ^ 32 }
-        requires stand { IsStanding self.old }
-        ensures stand { IsStanding self.new }
+        requires stand { StandsForCache self.old }
+        ensures stand { StandsForCache self.new }
         ensures done { IsDone self.old self.new t (requests.Fetch key.now) result }
         ensures seats { (ask : Ask) → ask.kind ≡ HOLD → ask.number ≡ seat → ask.set ≡ least
             → KeepsSeats ask self.old self.new result }
@@ -337,13 +341,13 @@ impl Cache {
     // The seat holds the block at a place from now on, in which the string of this answer stands.
     fn sit(&mut self, seat: u32, at: u32, _answer: &Answer)
         requires seat { seat < 64 }
-        requires stand { IsStanding self.old }
+        requires stand { StandsForCache self.old }
         requires place { 0 < at }
         requires text { _answer.now.kind ≡ STR }
         requires block { IsBlockOf self.old at _answer.now }
-        ensures stand { IsStanding self.new }
+        ensures stand { StandsForCache self.new }
         ensures core { self.new.core ≡ self.old.core }
-        ensures words { words_of self.new ≡ words_of self.old }
+        ensures words { cache_words self.new ≡ cache_words self.old }
         ensures seats { seats_of self.new ≡ slice_set (seats_of self.old) seat at }
     {
         self.words.hold(seat, at);
@@ -351,8 +355,8 @@ impl Cache {
 
     /// The seat holds nothing from now on; false where there is none of this number.
     pub(crate) fn let_go(&mut self, seat: u32) -> bool
-        requires stand { IsStanding self.old }
-        ensures stand { IsStanding self.new }
+        requires stand { StandsForCache self.old }
+        ensures stand { StandsForCache self.new }
         ensures free { HasLetGo self.old self.new seat result }
     {
         if seat >= SEATS {
@@ -365,8 +369,8 @@ impl Cache {
     // Whether a look-up finds the key.
     fn exists(&mut self, key: &[u8], t: u64) -> u32
         requires short { length key.now < 2 ^ 32 }
-        requires stand { IsStanding self.old }
-        ensures left { IsLeft self.old self.new }
+        requires stand { StandsForCache self.old }
+        ensures left { LeavesHeld self.old self.new }
         ensures done { IsDone self.old self.new t (requests.Exists key.now) (plain_answer result) }
     {
         flag(self.core.exists(&mut self.words, key, t))
@@ -375,8 +379,8 @@ impl Cache {
     // Deletes the row of the key.
     fn delete(&mut self, key: &[u8], t: u64) -> u32
         requires short { length key.now < 2 ^ 32 }
-        requires stand { IsStanding self.old }
-        ensures left { IsLeft self.old self.new }
+        requires stand { StandsForCache self.old }
+        ensures left { LeavesHeld self.old self.new }
         ensures done { IsDone self.old self.new t (requests.Delete key.now) (plain_answer result) }
     {
         self.begin();
@@ -386,8 +390,8 @@ impl Cache {
     // Counts by the step.
     fn count(&mut self, key: &[u8], step: u64, ttl: u32, t: u64) -> Answer
         requires short { length key.now < 2 ^ 32 }
-        requires stand { IsStanding self.old }
-        ensures left { IsLeft self.old self.new }
+        requires stand { StandsForCache self.old }
+        ensures left { LeavesHeld self.old self.new }
         ensures done { IsDone self.old self.new t
             (requests.Inc key.now (cast_signed w64 step) ttl) result }
     {
@@ -408,8 +412,8 @@ impl Cache {
     // Sets the integer where it is the expected one.
     fn swap(&mut self, key: &[u8], expect: u64, set: u64, t: u64) -> u32
         requires short { length key.now < 2 ^ 32 }
-        requires stand { IsStanding self.old }
-        ensures left { IsLeft self.old self.new }
+        requires stand { StandsForCache self.old }
+        ensures left { LeavesHeld self.old self.new }
         ensures done { IsDone self.old self.new t
             (requests.Cas key.now (cast_signed w64 expect) (cast_signed w64 set))
             (plain_answer result) }
@@ -422,8 +426,8 @@ impl Cache {
 
     // Drops all rows.
     fn clear(&mut self, t: u64) -> u32
-        requires stand { IsStanding self.old }
-        ensures left { IsLeft self.old self.new }
+        requires stand { StandsForCache self.old }
+        ensures left { LeavesHeld self.old self.new }
         ensures done { IsDone self.old self.new t requests.Clear (plain_answer result) }
     {
         self.begin();
@@ -435,12 +439,13 @@ impl Cache {
     // scalar.
     fn other(&mut self, key: &[u8], at: u32) -> Answer
         requires short { length key.now < 2 ^ 32 }
-        requires stand { IsStanding self.old }
+        requires stand { StandsForCache self.old }
         requires there { (row : Row) × IsRowOf (cache_of self.old.core) key.now at row }
-        ensures same { IsKept self.old self.new }
+        ensures same { StandsUnchanged self.old self.new }
         ensures told { (row : Row) → IsRowOf (cache_of self.old.core) key.now at row
-            → scalar_of row.graph ≡ None → IsValueBy (words_of self.new) row.graph result }
-        ensures place { result.kind ≡ STR → result.place ≡ image_place (words_of self.new) at + 1 }
+            → scalar_of row.graph ≡ None → IsValueBy (cache_words self.new) row.graph result }
+        ensures place { result.kind ≡ STR
+            → result.place ≡ image_place (cache_words self.new) at + 1 }
         ensures positive { 0 < at }
     {
         let image = at + HEAD_WORDS + words_in(key.len() as u32);

@@ -4,7 +4,7 @@ ghost use Rattle.std.specs.Prelude.{◌≡◌, option_map, find, nat_le};
 ghost use Rattle.seg_words.specs.declared.gaps.Extent.{Extent};
 ghost use Rattle.apcu_model.specs.Infos.{gaps_of};
 ghost use Rattle.cache_core.specs.CoreCache.{cache_of};
-ghost use Rattle.cache_c.specs.Standing.{IsStanding, IsKept};
+ghost use Rattle.cache_c.specs.Standing.{StandsForCache, StandsUnchanged};
 ghost use Rattle.cache_c.specs.Told.{counts_told, AreGapsBy, gaps_from};
 
 use crate::cache::Cache;
@@ -42,8 +42,8 @@ pub struct Gap {
 impl Cache {
     /// What it counts, and its words.
     pub(crate) fn counts(&mut self) -> ToldCounts
-        requires stand { IsStanding self.old }
-        ensures same { IsKept self.old self.new }
+        requires stand { StandsForCache self.old }
+        ensures same { StandsUnchanged self.old self.new }
         ensures counts { result ≡ counts_told (cache_of self.old.core) }
     {
         let counts = self.core.counts();
@@ -63,8 +63,8 @@ impl Cache {
 
     // The first gap at or past a place, as its place and its size.
     fn gap(&mut self, from: u32) -> Option<(u32, u32)>
-        requires stand { IsStanding self.old }
-        ensures same { IsKept self.old self.new }
+        requires stand { StandsForCache self.old }
+        ensures same { StandsUnchanged self.old self.new }
         ensures gap { result ≡ option_map (λ (gap : Extent). (gap.place, gap.size))
             (find (λ gap. nat_le from gap.place) (gaps_of (cache_of self.old.core))) }
     {
@@ -74,8 +74,8 @@ impl Cache {
     /// Fills the slice with the gaps at or past a place, by rising place. It answers how many were
     /// written.
     pub(crate) fn list_gaps(&mut self, from: u32, out: &mut [Gap]) -> u64
-        requires stand { IsStanding self.old }
-        ensures same { IsKept self.old self.new }
+        requires stand { StandsForCache self.old }
+        ensures same { StandsUnchanged self.old self.new }
         ensures gaps { AreGapsBy (gaps_from from (gaps_of (cache_of self.old.core)))
             out.old out.new result }
     {

@@ -11,7 +11,7 @@ ghost use Rattle.entry_slots.specs.Entries.{IsListed, listed, FollowsInChain};
 ghost use Rattle.entry_slots.specs.Standing.{entries};
 ghost use Rattle.cache_core.specs.Looking.{scalar_of};
 ghost use Rattle.cache_core.specs.CoreCache.{cache_of};
-ghost use Rattle.cache_c.specs.Standing.{IsStanding, IsKept, words_of};
+ghost use Rattle.cache_c.specs.Standing.{StandsForCache, StandsUnchanged, cache_words};
 ghost use Rattle.cache_c.specs.Asked.{IsValueBy};
 ghost use Rattle.cache_c.specs.Told.{IsRowBy, IsFoundBy, AreListedBy, rows_of, found_row};
 
@@ -77,9 +77,9 @@ fn no_row() -> ToldRow
 impl Cache {
     /// The row that a look-up of the key at the moment `t`, in seconds, finds. Nothing is counted.
     pub(crate) fn find(&mut self, key: &[u8], t: u64) -> ToldRow
-        requires stand { IsStanding self.old }
-        ensures same { IsKept self.old self.new }
-        ensures row { IsFoundBy (words_of self.new) (cache_of self.old.core) key.now
+        requires stand { StandsForCache self.old }
+        ensures same { StandsUnchanged self.old self.new }
+        ensures row { IsFoundBy (cache_words self.new) (cache_of self.old.core) key.now
             (found_row key.now t (cache_of self.old.core)) result }
     {
         if key.len() >= 4_294_967_296 {
@@ -94,7 +94,7 @@ impl Cache {
 
     // The slot of a key.
     fn slot_of(&self, key: &[u8]) -> u32
-        requires stand { IsStanding self.now }
+        requires stand { StandsForCache self.now }
         ensures slot { result ≡ slot_of (cache_of self.now.core).conf key.now }
     {
         let slots = self.core.conf().slots;
@@ -104,9 +104,9 @@ impl Cache {
     /// Fills the slice with the rows of a list, in their order and after the first `skip`: those of
     /// a slot, or behind the slots the removed rows. It answers how many were written.
     pub(crate) fn list_rows(&mut self, slot: u32, skip: u64, out: &mut [ToldRow]) -> u64
-        requires stand { IsStanding self.old }
-        ensures same { IsKept self.old self.new }
-        ensures rows { AreListedBy (words_of self.new) slot
+        requires stand { StandsForCache self.old }
+        ensures same { StandsUnchanged self.old self.new }
+        ensures rows { AreListedBy (cache_words self.new) slot
             (drop skip (rows_of (cache_of self.old.core) slot)) out.old out.new result }
     {
         standing_laws();
@@ -123,8 +123,8 @@ impl Cache {
 
     // The place of the row that stands in a list after the first `skip`; 0 where there is none.
     fn skipped(&mut self, slot: u32, skip: u64) -> u32
-        requires stand { IsStanding self.old }
-        ensures same { IsKept self.old self.new }
+        requires stand { StandsForCache self.old }
+        ensures same { StandsUnchanged self.old self.new }
         ensures place { result
             ≡ first_place (drop skip (rows_of (cache_of self.old.core) slot)) }
     {
@@ -141,8 +141,8 @@ impl Cache {
 
     // The place of the first row of a list; 0 where there is none.
     fn first(&mut self, slot: u32) -> u32
-        requires stand { IsStanding self.old }
-        ensures same { IsKept self.old self.new }
+        requires stand { StandsForCache self.old }
+        ensures same { StandsUnchanged self.old self.new }
         ensures place { result ≡ first_place (rows_of (cache_of self.old.core) slot) }
     {
         let slots = self.core.slots();
@@ -157,9 +157,9 @@ impl Cache {
 
     // The place of the row that follows one in its list; 0 at the end.
     fn after(&mut self, at: u32) -> u32
-        requires stand { IsStanding self.old }
+        requires stand { StandsForCache self.old }
         requires there { has_place at (listed (entries self.old.core.slots)) ≡ true }
-        ensures same { IsKept self.old self.new }
+        ensures same { StandsUnchanged self.old self.new }
         ensures row { FollowsInChain (entries self.old.core.slots) at result }
         ensures removed { FollowsIn (entries self.old.core.slots).removed at result }
     {
@@ -168,11 +168,11 @@ impl Cache {
 
     // What is told of the row at a place, which stands in this list.
     fn row(&mut self, slot: u32, at: u32) -> ToldRow
-        requires stand { IsStanding self.old }
+        requires stand { StandsForCache self.old }
         requires there { has_place at (listed (entries self.old.core.slots)) ≡ true }
-        ensures same { IsKept self.old self.new }
+        ensures same { StandsUnchanged self.old self.new }
         ensures told { (row : Row) → IsListed (entries self.old.core.slots) at row
-            → IsRowBy (words_of self.new) slot row result }
+            → IsRowBy (cache_words self.new) slot row result }
     {
         standing_laws();
         bytes_are_packed();
@@ -197,11 +197,11 @@ impl Cache {
     // The value of which the image stands at a place.
     fn value(&mut self, image: u32) -> Answer
         requires image { (g : List Kind)
-            × IsToldImage (words_of self.old) nothing_aside.windows image g }
-        ensures same { IsKept self.old self.new }
+            × IsToldImage (cache_words self.old) nothing_aside.windows image g }
+        ensures same { StandsUnchanged self.old self.new }
         ensures told { (g : List Kind)
-            → IsToldImage (words_of self.old) nothing_aside.windows image g
-            → IsValueBy (words_of self.new) g result }
+            → IsToldImage (cache_words self.old) nothing_aside.windows image g
+            → IsValueBy (cache_words self.new) g result }
     {
         match read_scalar(&mut self.words.late, image) {
             Some(value) => scalar(value),
@@ -212,11 +212,11 @@ impl Cache {
     // The same of a value that is no scalar.
     pub(crate) fn text(&mut self, image: u32) -> Answer
         requires image { (g : List Kind)
-            × IsToldImage (words_of self.old) nothing_aside.windows image g }
-        ensures same { IsKept self.old self.new }
+            × IsToldImage (cache_words self.old) nothing_aside.windows image g }
+        ensures same { StandsUnchanged self.old self.new }
         ensures told { (g : List Kind)
-            → IsToldImage (words_of self.old) nothing_aside.windows image g
-            → scalar_of g ≡ None → IsValueBy (words_of self.new) g result }
+            → IsToldImage (cache_words self.old) nothing_aside.windows image g
+            → scalar_of g ≡ None → IsValueBy (cache_words self.new) g result }
         ensures place { result.kind ≡ STR → result.place ≡ image + 1 }
     {
         match string_len(&mut self.words.late, image) {

@@ -2,7 +2,7 @@
 
 ghost use Rattle.std.specs.Prelude.{◌≡◌, None, Some};
 ghost use Rattle.apcu_model.specs.Asking.{asked};
-ghost use Rattle.mark_play.specs.Asks.{MayAsk};
+ghost use Rattle.mark_play.specs.Asks.{MayBeAsked};
 
 use apcu_iter::{RegexMaker, Search};
 use apcu_model::{Ask, Conf, Fields, List, Reply, Request};
@@ -69,7 +69,7 @@ impl Table {
 
     // The answer to what is asked in an event.
     fn play(&mut self, rt: &impl Abort, event: Event, ask: Ask<'_>) -> Result<Reply, Fail>
-        requires may { MayAsk self.old.conf self.old.search (asked ask) }
+        requires may { MayBeAsked self.old.conf self.old.search (asked ask) }
     {
         assert!(rt; self.left > 0 && event.worker < 64);
         let Event { worker, mask, t } = event;

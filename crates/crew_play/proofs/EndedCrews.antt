@@ -16,7 +16,7 @@ use Rattle.apcu_model.specs.History.{start_of, all_legal, marks_of}
 use Rattle.pin_table.specs.Values.{PassView}
 use Rattle.pin_table.specs.Events.{events_of}
 use Rattle.pin_table.specs.Lists.{AllOf, known_list}
-use Rattle.pin_table.specs.Views.{is_among}
+use Rattle.pin_table.specs.Views.{has_worker}
 use Rattle.script_read.specs.declared.script.Step.{Step}
 use Rattle.script_read.specs.Budgets.{events_in, budgets_of}
 use Rattle.script_read.specs.Clock.{timed, all_timed}
@@ -30,7 +30,7 @@ use Rattle.shared_cache.specs.ClosedCaches.{IsClosed, IsClosedWhole}
 use Rattle.worker_play.specs.declared.script.PlayFault.{PlayFault}
 use Rattle.crew_play.specs.declared.play.Left.{Left}
 use Rattle.crew_play.specs.Crew.{AllEnd}
-use Rattle.crew_play.specs.PlayedScripts.{IsPlayed, IsLeft}
+use Rattle.crew_play.specs.PlayedScripts.{IsPlayed, IsLeftByPlay}
 use Rattle.crew_play.proofs.Crews.{get-map}
 
 -- what stands at a place of a list
@@ -41,16 +41,16 @@ get_some (x ∷ xs) (suc k) h = get_some xs k (omega (arith, h))
 
 -- ---- who has ended
 
-pub among_at : (bs : List PassView) (k w : ℕ) (b : PassView) → slice_get bs k ≡ Some b → b.known.worker ≡ w → is_among w (known_list bs) ≡ true
+pub among_at : (bs : List PassView) (k w : ℕ) (b : PassView) → slice_get bs k ≡ Some b → b.known.worker ≡ w → has_worker w (known_list bs) ≡ true
 among_at [] k w b h e = absurd (cc (h))
 among_at (c ∷ bs) zero w b h e =
     let same : c ≡ b = cc (h) in
-    or_left (c.known.worker == w) (is_among w (known_list bs)) (eq-eqb c.known.worker w (ap (λ (x : PassView). x.known.worker) same ∙ e))
-among_at (c ∷ bs) (suc k) w b h e = or_right (c.known.worker == w) (is_among w (known_list bs)) (among_at bs k w b h e)
+    or_left (c.known.worker == w) (has_worker w (known_list bs)) (eq-eqb c.known.worker w (ap (λ (x : PassView). x.known.worker) same ∙ e))
+among_at (c ∷ bs) (suc k) w b h e = or_right (c.known.worker == w) (has_worker w (known_list bs)) (among_at bs k w b h e)
 
-pub among_there : (bs : List PassView) (w : ℕ) → is_among w (known_list bs) ≡ true → (k : ℕ) × (b : PassView) × (slice_get bs k ≡ Some b) × (b.known.worker ≡ w)
+pub among_there : (bs : List PassView) (w : ℕ) → has_worker w (known_list bs) ≡ true → (k : ℕ) × (b : PassView) × (slice_get bs k ≡ Some b) × (b.known.worker ≡ w)
 among_there [] w h = absurd (false≢true h)
-among_there (c ∷ bs) w h = elim (or_cases (c.known.worker == w) (is_among w (known_list bs)) h) [
+among_there (c ∷ bs) w h = elim (or_cases (c.known.worker == w) (has_worker w (known_list bs)) h) [
   | inl e ↦ (0, c, refl, eqb-true c.known.worker w e)
   | inr r ↦ let s = among_there bs w r in (suc s.0, s.1, s.2, s.3)
 ]
@@ -69,14 +69,14 @@ pub all_of : (t : TableId) (conf : Conf) (scripts : List (List Step)) (ended : L
 all_of t conf scripts ended texts all k b h = (its_place t conf scripts ended texts all k b h).0
 
 pub every : (t : TableId) (conf : Conf) (scripts : List (List Step)) (ended : List PassView) (texts : List (Result (List ℕ) PlayFault)) → AllEnd t conf scripts (length scripts) ended texts
-    → (w : ℕ) → w < length scripts → is_among w (known_list ended) ≡ true
+    → (w : ℕ) → w < length scripts → has_worker w (known_list ended) ≡ true
 every t conf scripts ended texts all w few =
     let b = get_some ended w (omega (arith, few, all.have_ended)) in
     among_at ended w w b.0 b.1 (its_place t conf scripts ended texts all w b.0 b.1).1
 
 pub none_else : (t : TableId) (conf : Conf) (scripts : List (List Step)) (ended : List PassView) (texts : List (Result (List ℕ) PlayFault)) → AllEnd t conf scripts (length scripts) ended texts
-    → (w : ℕ) → length scripts ≤ w → is_among w (known_list ended) ≡ false
-none_else t conf scripts ended texts all w past = elim (cases_Bool (is_among w (known_list ended))) [
+    → (w : ℕ) → length scripts ≤ w → has_worker w (known_list ended) ≡ false
+none_else t conf scripts ended texts all w past = elim (cases_Bool (has_worker w (known_list ended))) [
   | inl h ↦
       let s = among_there ended w h in
       let p = its_place t conf scripts ended texts all s.0 s.1 s.2 in
@@ -178,7 +178,7 @@ is_played law laws t conf workers scripts ended texts closed count all c =
 
 -- and the cache that is left is the one after that play
 pub is_left : OthersLaw → PlayLaws → (t : TableId) (conf : Conf) (workers : ℕ) (scripts : List (List Step)) (ended : List PassView) (texts : List (List ℕ)) (closed : Closed) (core : Core) (words : VecWords) → workers ≡ length scripts
-    → AllEnd t conf scripts (length scripts) ended (map Ok texts) → IsClosedWhole conf workers ended closed core words → IsLeft conf scripts closed.journal.marks texts closed.counts core words
+    → AllEnd t conf scripts (length scripts) ended (map Ok texts) → IsClosedWhole conf workers ended closed core words → IsLeftByPlay conf scripts closed.journal.marks texts closed.counts core words
 unfolding is_played
 is_left law laws t conf workers scripts ended texts closed core words count all c = record {
   is_played = is_played law laws t conf workers scripts ended texts closed count all c.is_closed;
@@ -189,7 +189,7 @@ is_left law laws t conf workers scripts ended texts closed core words count all 
 -- where one is left
 pub any_left : OthersLaw → PlayLaws → (t : TableId) (conf : Conf) (workers : ℕ) (scripts : List (List Step)) (ended : List PassView) (texts : List (List ℕ)) (closed : Closed) (left : Option Left) → workers ≡ length scripts
     → AllEnd t conf scripts (length scripts) ended (map Ok texts) → IfSome left (λ l. IsClosedWhole conf workers ended closed l.core l.words)
-    → IfSome left (λ l. IsLeft conf scripts closed.journal.marks texts closed.counts l.core l.words)
+    → IfSome left (λ l. IsLeftByPlay conf scripts closed.journal.marks texts closed.counts l.core l.words)
 any_left law laws t conf workers scripts ended texts closed None count all whole = whole
 any_left law laws t conf workers scripts ended texts closed (Some left) count all whole =
     is_left law laws t conf workers scripts ended texts closed left.core left.words count all whole

@@ -16,7 +16,7 @@ use Rattle.apcu_model.specs.History.{start_of, all_legal, marks_of}
 use Rattle.pin_table.specs.Values.{PassView}
 use Rattle.pin_table.specs.Events.{events_of}
 use Rattle.pin_table.specs.Lists.{AllOf, known_list}
-use Rattle.pin_table.specs.Views.{is_among}
+use Rattle.pin_table.specs.Views.{has_worker}
 use Rattle.script_read.specs.declared.script.Step.{Step}
 use Rattle.script_read.specs.Budgets.{most_events}
 use Rattle.script_read.specs.GeneratedScripts.{Draw, draws_of, steps_of_draws, generated}
@@ -65,7 +65,7 @@ of_table t conf scripts count workers first end others all numbers h o k b hb = 
 
 -- and each worker is in it
 pub each_there : (t : TableId) (conf : Conf) (scripts : List (List Step)) (count workers : ℕ) (first end : PassView) (others : List PassView) (all : Bool) (numbers : List ℤ) → HaveMade t conf scripts count first others all → Observes conf workers first end numbers
-    → (w : ℕ) → w < count → is_among w (known_list (others ++ end ∷ [])) ≡ true
+    → (w : ℕ) → w < count → has_worker w (known_list (others ++ end ∷ [])) ≡ true
 each_there t conf scripts count workers first end others all numbers h o zero few =
     among_at (others ++ end ∷ []) (length others) 0 end (get_behind others end []) (first_ended t conf scripts count workers first end others all numbers h o).worker
 each_there t conf scripts count workers first end others all numbers h o (suc k) few =
@@ -73,8 +73,8 @@ each_there t conf scripts count workers first end others all numbers h o (suc k)
     let b = get_some others k within in
     among_at (others ++ end ∷ []) k (suc k) b.0 (get_first others (end ∷ []) k within ∙ b.1) (h.each k b.0 b.1).worker
 
-none_else : (count : ℕ) (bs : List PassView) → ((k : ℕ) (b : PassView) → slice_get bs k ≡ Some b → b.known.worker < count) → (w : ℕ) → count ≤ w → is_among w (known_list bs) ≡ false
-none_else count bs each w past = elim (cases_Bool (is_among w (known_list bs))) [
+none_else : (count : ℕ) (bs : List PassView) → ((k : ℕ) (b : PassView) → slice_get bs k ≡ Some b → b.known.worker < count) → (w : ℕ) → count ≤ w → has_worker w (known_list bs) ≡ false
+none_else count bs each w past = elim (cases_Bool (has_worker w (known_list bs))) [
   | inl h ↦
       let s = among_there bs w h in
       absurd (omega (arith, past, each s.0 s.1 s.2, s.3))

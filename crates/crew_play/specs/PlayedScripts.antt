@@ -26,7 +26,7 @@ pub record IsPlayed (conf : Conf) (scripts : List (List Step)) (journal : List M
 
 -- So they were played. The core is the cache after that very play, and the words stand for it. They
 -- are words of one thread, which have no windows.
-pub record IsLeft (conf : Conf) (scripts : List (List Step)) (journal : List Mark)
+pub record IsLeftByPlay (conf : Conf) (scripts : List (List Step)) (journal : List Mark)
     (texts : List (List ℕ)) (counts : Counts) (core : Core) (words : VecWords) : Type 0 where
   pub is_played : IsPlayed conf scripts journal texts counts
   pub cache : cache_of core ≡ is_played.play.stage.cache

@@ -4,11 +4,11 @@ ghost use Rattle.std.specs.Prelude.{◌≡◌, ◌≢◌, ℕ, ◌-◌, ◌<◌,
 ghost use Rattle.std.specs.Prelude.{Contains, Ok, Err, IfOk, IfErr, IfSome, is_some, true};
 ghost use Rattle.apcu_model.specs.Conf.{IsGood};
 ghost use Rattle.pin_table.specs.Lists.{AllOf, known_list};
-ghost use Rattle.pin_table.specs.Views.{is_among};
+ghost use Rattle.pin_table.specs.Views.{has_worker};
 ghost use Rattle.script_read.specs.Budgets.{budgets_of, all_events, most_events};
 ghost use Rattle.script_read.specs.Clock.{all_timed};
 ghost use Rattle.script_read.specs.Patterns.{SomeRefusable};
-ghost use Rattle.crew_play.specs.PlayedScripts.{IsPlayed, IsLeft, ComeFirst};
+ghost use Rattle.crew_play.specs.PlayedScripts.{IsPlayed, IsLeftByPlay, ComeFirst};
 ghost use Rattle.crew_play.specs.declared.order.Order.TheVariants.{LastFirst};
 ghost use Rattle.crew_play.specs.declared.play.CrewFault.TheVariants.{Memory, TooMany, Pattern};
 ghost use Rattle.shared_cache.specs.ClosedCaches.{IsClosed, IsClosedWhole};
@@ -110,7 +110,7 @@ fn close<N: TableName, R: Wait>(
 ) -> (Closed, Option<Left>)
     requires table { AllOf N.table ended.ended }
     requires every { (w : ℕ) → w < length N.budgets
-        → is_among w (known_list ended.ended) ≡ true }
+        → has_worker w (known_list ended.ended) ≡ true }
     ensures closed { IsClosed N.conf (length N.budgets) ended.ended result.0 }
     ensures left { IfSome result.1 (λ l.
         IsClosedWhole N.conf (length N.budgets) ended.ended result.0 l.core l.words) }
@@ -148,7 +148,7 @@ fn play_named<
     requires some { order ≡ LastFirst → 1 ≤ length cast.now.scripts.now }
     ensures played { IfOk result (λ p. IsPlayed cast.now.conf.now
         (all_timed cast.now.clock cast.now.scripts.now) p.journal.marks p.texts.items p.counts) }
-    ensures left { IfOk result (λ p. IfSome p.left (λ l. IsLeft cast.now.conf.now
+    ensures left { IfOk result (λ p. IfSome p.left (λ l. IsLeftByPlay cast.now.conf.now
         (all_timed cast.now.clock cast.now.scripts.now) p.journal.marks p.texts.items p.counts
         l.core l.words)) }
     ensures kept { IfOk result (λ p. is_some p.left ≡ keep) }
@@ -183,7 +183,7 @@ fn play_opened<M: Maker + Sync, G: Gate + Sync, R: Threads + Wait + Sync>(
     requires some { order ≡ LastFirst → 1 ≤ length cast.now.scripts.now }
     ensures played { IfOk result (λ p. IsPlayed cast.now.conf.now
         (all_timed cast.now.clock cast.now.scripts.now) p.journal.marks p.texts.items p.counts) }
-    ensures left { IfOk result (λ p. IfSome p.left (λ l. IsLeft cast.now.conf.now
+    ensures left { IfOk result (λ p. IfSome p.left (λ l. IsLeftByPlay cast.now.conf.now
         (all_timed cast.now.clock cast.now.scripts.now) p.journal.marks p.texts.items p.counts
         l.core l.words)) }
     ensures kept { IfOk result (λ p. is_some p.left ≡ keep) }
@@ -238,7 +238,7 @@ pub fn play_scripts<M: Maker + Sync, G: Gate + Sync, R: Threads + Wait + Sync>(
     requires good { IsGood conf.now }
     ensures played { IfOk result (λ p. IsPlayed conf.now (all_timed clock scripts.now)
         p.journal.marks p.texts.items p.counts) }
-    ensures left { IfOk result (λ p. IfSome p.left (λ l. IsLeft conf.now
+    ensures left { IfOk result (λ p. IfSome p.left (λ l. IsLeftByPlay conf.now
         (all_timed clock scripts.now) p.journal.marks p.texts.items p.counts l.core l.words)) }
     ensures kept { IfOk result (λ p. is_some p.left ≡ keep) }
     ensures few { IfOk result (λ _. all_events conf.now.slots scripts.now ≤ most_events) }
@@ -280,7 +280,7 @@ pub fn play_loaded<M: Maker + Sync, G: Gate + Sync, R: Threads + Wait + Sync>(
     requires some { 1 ≤ length scripts.now }
     ensures played { IfOk result (λ p. IsPlayed conf.now (all_timed clock scripts.now)
         p.journal.marks p.texts.items p.counts) }
-    ensures left { IfOk result (λ p. IfSome p.left (λ l. IsLeft conf.now
+    ensures left { IfOk result (λ p. IfSome p.left (λ l. IsLeftByPlay conf.now
         (all_timed clock scripts.now) p.journal.marks p.texts.items p.counts l.core l.words)) }
     ensures kept { IfOk result (λ p. is_some p.left ≡ keep) }
     ensures first { IfOk result (λ p. ComeFirst (length scripts.now - 1) p.journal.marks) }

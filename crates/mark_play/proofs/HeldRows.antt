@@ -15,7 +15,7 @@ use Rattle.apcu_model.specs.History.{Stage, IsNumbered, window_of, is_in_mask, i
 use Rattle.entry_slots.specs.Lists.{is_at, has_place}
 use Rattle.mark_play.specs.declared.answering.Window.{Window}
 use Rattle.mark_play.specs.HeldPlaces.{IsHeldFor}
-use Rattle.mark_play.specs.ReplayStages.{number_in}
+use Rattle.mark_play.specs.ReplayStages.{window_number}
 use Rattle.mark_play.proofs.OpenWindows.{opened_held, named_there, held_same}
 
 -- a worker's window in the history is one of the list
@@ -38,7 +38,7 @@ both false true f g = g refl
 pub record Meets (m : Stage) (windows : List (Option Window)) (mask : ℕ) (held : List ℕ) : Type 0 where
   pub seats : length held ≡ 64
   pub small : mask < 2 ^ 64
-  pub numbers : (v : ℕ) → v < 64 → number_in (slice_index_or windows v None) ≡ window_of m v
+  pub numbers : (v : ℕ) → v < 64 → window_number (slice_index_or windows v None) ≡ window_of m v
   pub held_for : (v : ℕ) → v < 64 → bit_at mask v ≡ 1 → IsHeldFor (m.cache.rows ++ m.cache.removed) (slice_index_or windows v None) (slice_index held v)
   pub numbered : IsNumbered m
 
@@ -64,7 +64,7 @@ module _ (m : Stage) (windows : List (Option Window)) (mask : ℕ) (held : List 
             row = r.0;
             there = r.1;
             place = r.3 ∙ at;
-            window = sym (h.numbers v less) ∙ (ap number_in is ∙ ap Some (sym r.2));
+            window = sym (h.numbers v less) ∙ (ap window_number is ∙ ap Some (sym r.2));
           }
 
   -- the blocks of its rows, so that words stand for the same entries
@@ -114,9 +114,9 @@ module _ (m : Stage) (windows : List (Option Window)) (mask : ℕ) (held : List 
           ]
 
           go : (o : Option Window) → slice_index_or windows v None ≡ o → IsHeldFor (m.cache.rows ++ m.cache.removed) o (slice_index held v) → has b (held_by mask (opened_for mask held)) ≡ true
-          go None is p = let e : number_in None ≡ Some row.number = ap number_in (sym is) ∙ (h.numbers v less ∙ window) in absurd (cc e)
+          go None is p = let e : window_number None ≡ Some row.number = ap window_number (sym is) ∙ (h.numbers v less ∙ window) in absurd (cc e)
           go (Some w) is p =
-              let e : number_in (Some w) ≡ Some row.number = ap number_in (sym is) ∙ (h.numbers v less ∙ window) in
+              let e : window_number (Some w) ≡ Some row.number = ap window_number (sym is) ∙ (h.numbers v less ∙ window) in
               let n : w.number ≡ row.number = cc e in
               let pos : slice_index held v ≢ 0 = λ z. p.none z row c (sym n) in
               let r = p.there pos in

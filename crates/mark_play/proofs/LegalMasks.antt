@@ -6,7 +6,7 @@ use Rattle.std.proofs.lemmas.Bool.{and_from, lt-ltb, cases_eq}
 use Rattle.apcu_model.specs.History.{Stage, is_in_mask, is_legal_mask, window_of}
 use Rattle.mark_play.specs.declared.answering.Window.{Window}
 use Rattle.mark_play.specs.Legal.{may_meet, is_legal_by}
-use Rattle.mark_play.specs.ReplayStages.{number_in}
+use Rattle.mark_play.specs.ReplayStages.{window_number}
 
 pub all_pass : (p : ℕ → Bool) (a n : ℕ) → ((k : ℕ) → a ≤ k → k < a + n → p k ≡ true) → list_all p (range_with_len a n) ≡ true
 all_pass p a zero h = refl
@@ -29,12 +29,12 @@ alike_all p q a (suc n) h =
     ap (λ b. b && list_all p (range_with_len (a + 1) n)) (h a (omega arith) (omega arith))
     ∙ ap (λ b. q a && b) (alike_all p q (a + 1) n (λ k low less. h k (omega (arith, low)) (omega (arith, less))))
 
-same_some : (o : Option Window) → is_some o ≡ is_some (number_in o)
+same_some : (o : Option Window) → is_some o ≡ is_some (window_number o)
 same_some None = refl
 same_some (Some w) = refl
 
 -- the windows beside the words say the same as the history
-pub legal_alike : (m : Stage) (windows : List (Option Window)) (workers worker mask : ℕ) → mask < 2 ^ 64 → ((v : ℕ) → v < 64 → number_in (slice_index_or windows v None) ≡ window_of m v)
+pub legal_alike : (m : Stage) (windows : List (Option Window)) (workers worker mask : ℕ) → mask < 2 ^ 64 → ((v : ℕ) → v < 64 → window_number (slice_index_or windows v None) ≡ window_of m v)
     → is_legal_by windows workers worker mask ≡ is_legal_mask workers worker m mask
 legal_alike m windows workers worker mask small numbers =
     alike_all (λ v. may_meet workers worker mask v (slice_index_or windows v None)) (λ v. not (is_in_mask mask v) || (not (v == worker) && nat_lt v workers && is_some (window_of m v))) 0 64 (λ k low less.

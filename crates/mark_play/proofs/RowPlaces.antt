@@ -12,7 +12,7 @@ use Rattle.entry_slots.specs.Lists.{is_at, has_place, first_place}
 use Rattle.entry_slots.specs.Entries.{Entries, place_of, listed}
 use Rattle.entry_slots.specs.RowWalks.{left_here}
 use Rattle.mark_play.specs.declared.answering.Window.{Window}
-use Rattle.mark_play.specs.HeldPlaces.{HasKeyIn, IsPlaceOf}
+use Rattle.mark_play.specs.HeldPlaces.{HasKeyIn, IsRowPlace}
 use Rattle.mark_play.proofs.FoundRows.{found_there}
 
 drop_none : (k : ℕ) → drop {A = Row} k [] ≡ []
@@ -125,7 +125,7 @@ in_rows : (s : Entries) (w : Window) → HasKeyIn (listed s) w → (row : Row) �
 in_rows s w keys row c e = keys row (Contains-append_left s.rows s.removed row c) e
 
 -- no row of the window's key: none has its number
-pub gone_place : (s : Entries) (w : Window) → HasKeyIn (listed s) w → None ≡ place_of w.key s → IsPlaceOf s.rows w.number 0
+pub gone_place : (s : Entries) (w : Window) → HasKeyIn (listed s) w → None ≡ place_of w.key s → IsRowPlace s.rows w.number 0
 gone_place s w keys none = record {
   there = λ some. absurd (some refl);
   none = λ is row c e. key_gone w.key s none row c (in_rows s w keys row c e);
@@ -133,7 +133,7 @@ gone_place s w keys none = record {
 
 -- the row of its key has another number
 pub other_place : (s : Entries) (w : Window) (at number : ℕ) → HasKeyIn (listed s) w → are_apart s.rows ≡ true → (r : KeyRow w.key s.rows at) → number ≡ r.row.number → number ≢ w.number
-    → IsPlaceOf s.rows w.number 0
+    → IsRowPlace s.rows w.number 0
 other_place s w at number keys apart r is other = record {
   there = λ some. absurd (some refl);
   none = λ z row c e.
@@ -142,20 +142,20 @@ other_place s w at number keys apart r is other = record {
 }
 
 -- a row that has the number
-pub its_place : (rows : List Row) (number n at : ℕ) (row : Row) → Contains rows row → row.place ≡ at → n ≡ row.number → n ≡ number → has_place 0 rows ≡ false → IsPlaceOf rows number at
+pub its_place : (rows : List Row) (number n at : ℕ) (row : Row) → Contains rows row → row.place ≡ at → n ≡ row.number → n ≡ number → has_place 0 rows ≡ false → IsRowPlace rows number at
 its_place rows number n at row there place is same none = record {
   there = λ some. (row, there, sym is ∙ same, place);
   none = λ z. absurd (false≢true (sym none ∙ any_from (is_at 0) rows row there (eq-eqb row.place 0 (place ∙ z))));
 }
 
 -- among the rows, or else among the removed ones
-pub first_of_both : (s : Entries) (number at : ℕ) → at ≢ 0 → IsPlaceOf s.rows number at → IsPlaceOf (listed s) number at
+pub first_of_both : (s : Entries) (number at : ℕ) → at ≢ 0 → IsRowPlace s.rows number at → IsRowPlace (listed s) number at
 first_of_both s number at some h = record {
   there = λ z. let r = h.there z in (r.0, Contains-append_left s.rows s.removed r.0 r.1, r.2, r.3);
   none = λ z. absurd (some z);
 }
 
-pub second_of_both : (s : Entries) (number at : ℕ) → IsPlaceOf s.rows number 0 → IsPlaceOf s.removed number at → IsPlaceOf (listed s) number at
+pub second_of_both : (s : Entries) (number at : ℕ) → IsRowPlace s.rows number 0 → IsRowPlace s.removed number at → IsRowPlace (listed s) number at
 second_of_both s number at first h = record {
   there = λ z. let r = h.there z in (r.0, Contains-append_right s.rows s.removed r.0 r.1, r.2, r.3);
   none = λ z row c e. elim (Contains-append_cases s.rows s.removed row c) [
@@ -179,7 +179,7 @@ passed_one rows k n number first left is other row e c = elim (Contains-cases fi
 ]
 
 -- at its end it has passed all
-pub passed_all : (rows : List Row) (k number : ℕ) → drop k rows ≡ [] → ((row : Row) → Contains rows row → row.number ≡ number → Contains (drop k rows) row) → IsPlaceOf rows number 0
+pub passed_all : (rows : List Row) (k number : ℕ) → drop k rows ≡ [] → ((row : Row) → Contains rows row → row.number ≡ number → Contains (drop k rows) row) → IsRowPlace rows number 0
 passed_all rows k number none later = record {
   there = λ some. absurd (some refl);
   none = λ z row c e. none_in_nil row (subst (λ (l : List Row). Contains l row) none (later row c e));

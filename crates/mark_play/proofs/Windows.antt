@@ -17,9 +17,9 @@ use Rattle.apcu_model.specs.History.{Stage, window_of, is_scalar, is_shallow, op
 use Rattle.apcu_model.specs.Numbers.{AreBelow, KeepsNumbers}
 use Rattle.apcu_model.proofs.Windows.{window_stays}
 use Rattle.mark_play.specs.declared.answering.Window.{Window}
-use Rattle.mark_play.specs.Asks.{MayAsk}
+use Rattle.mark_play.specs.Asks.{MayBeAsked}
 use Rattle.mark_play.specs.Windows.{window_on, window_by}
-use Rattle.mark_play.specs.ReplayStages.{number_in, IsWindowIn}
+use Rattle.mark_play.specs.ReplayStages.{window_number, IsWindowIn}
 use Rattle.mark_play.proofs.FoundRows.{found_there, found_passes}
 
 -- ---- in the history
@@ -33,33 +33,33 @@ none_own w (x ∷ ws) = go (x.0 == w) refl (none_own w ws)
     go true is rest = rest
     go false is rest = ap (λ b. cond b (Some x.1) (lookup (λ x. x == w) (filter (λ (x : ℕ × ℕ). not (x.0 == w)) ws))) is ∙ rest
 
-own_of : (w t : ℕ) (r : Request) (c : Cache) (l : List (ℕ × ℕ)) → lookup (λ x. x == w) l ≡ None → lookup (λ x. x == w) (opened w t r c ++ l) ≡ number_in (window_by t r c)
+own_of : (w t : ℕ) (r : Request) (c : Cache) (l : List (ℕ × ℕ)) → lookup (λ x. x == w) l ≡ None → lookup (λ x. x == w) (opened w t r c ++ l) ≡ window_number (window_by t r c)
 own_of w t (request.Fetch key) c l none = found (live_row key t c)
   where
-    one : (b : Bool) (n : ℕ) → lookup (λ x. x == w) (cond b [] ((w, n) ∷ []) ++ l) ≡ number_in (cond b None (Some (record { key = key; number = n })))
+    one : (b : Bool) (n : ℕ) → lookup (λ x. x == w) (cond b [] ((w, n) ∷ []) ++ l) ≡ window_number (cond b None (Some (record { key = key; number = n })))
     one true n = none
     one false n = ap (λ b. cond b (Some n) (lookup (λ x. x == w) l)) (eq-eqb w w refl)
 
-    found : (o : Option Row) → lookup (λ x. x == w) (opened_at w o ++ l) ≡ number_in (window_on key o)
+    found : (o : Option Row) → lookup (λ x. x == w) (opened_at w o ++ l) ≡ window_number (window_on key o)
     found None = none
     found (Some row) = one (is_scalar row.graph) row.number
 own_of w t _ c l none = none
 
 -- the event's own worker has the window that its request opens
-pub window_own : (m : Stage) (e : Event) → window_of (after_event m e) e.worker ≡ number_in (window_by e.t e.request m.cache)
+pub window_own : (m : Stage) (e : Event) → window_of (after_event m e) e.worker ≡ window_number (window_by e.t e.request m.cache)
 window_own m e = own_of e.worker e.t e.request m.cache (filter (λ (w : ℕ × ℕ). not (w.0 == e.worker)) m.windows) (none_own e.worker m.windows)
 
 -- ---- beside the words
 
 -- all windows are as in the history, where the worker's is the new one
 pub numbers_after : (m : Stage) (e : Event) (windows : List (Option Window)) (o : Option Window) → length windows ≡ 64 → e.worker < 64 → o ≡ window_by e.t e.request m.cache
-    → ((v : ℕ) → v < 64 → number_in (slice_index_or windows v None) ≡ window_of m v)
-    → (v : ℕ) → v < 64 → number_in (slice_index_or (slice_set windows e.worker o) v None) ≡ window_of (after_event m e) v
+    → ((v : ℕ) → v < 64 → window_number (slice_index_or windows v None) ≡ window_of m v)
+    → (v : ℕ) → v < 64 → window_number (slice_index_or (slice_set windows e.worker o) v None) ≡ window_of (after_event m e) v
 numbers_after m e windows o full low is numbers v less = elim (cases_eq v e.worker) [
   | inl q ↦
-      subst (λ k. number_in (slice_index_or (slice_set windows e.worker o) k None) ≡ window_of (after_event m e) k) (sym q)
-      (ap number_in (get_or-set_same windows e.worker o None (omega (arith, full, low))) ∙ (ap number_in is ∙ sym (window_own m e)))
-  | inr ne ↦ ap number_in (get_or-set_other windows e.worker v o None ne) ∙ (numbers v less ∙ sym (window_stays m e v ne))
+      subst (λ k. window_number (slice_index_or (slice_set windows e.worker o) k None) ≡ window_of (after_event m e) k) (sym q)
+      (ap window_number (get_or-set_same windows e.worker o None (omega (arith, full, low))) ∙ (ap window_number is ∙ sym (window_own m e)))
+  | inr ne ↦ ap window_number (get_or-set_other windows e.worker v o None ne) ∙ (numbers v less ∙ sym (window_stays m e v ne))
 ]
 
 -- a window stays one
@@ -112,6 +112,6 @@ keys_after c d windows worker o full low keeps new old v w is = elim (cases_eq v
 ]
 
 -- what may be asked has few enough entries in one another
-pub flat_ask : (conf : Conf) (searched : Option Pattern) (r : Request) → MayAsk conf searched r → is_shallow r ≡ true
+pub flat_ask : (conf : Conf) (searched : Option Pattern) (r : Request) → MayBeAsked conf searched r → is_shallow r ≡ true
 flat_ask conf searched (request.Entry g) may = le-leb (length g.levels) most_levels may
 flat_ask conf searched _ may = refl

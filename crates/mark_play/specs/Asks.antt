@@ -20,21 +20,21 @@ pub record IsSearch (searched wanted : Option Pattern) : Type 0 where
 
 -- The arguments are in their ranges, and `searched` is the pattern of the search that was made for
 -- the request.
-abbrev pub MayAsk : Conf → Option Pattern → Request → Type 0
-MayAsk conf searched (requests.Store key value ttl exclusive) = length key < 2 ^ 32
-MayAsk conf searched (requests.Fetch key) = length key < 2 ^ 32
-MayAsk conf searched (requests.Exists key) = length key < 2 ^ 32
-MayAsk conf searched (requests.Delete key) = length key < 2 ^ 32
-MayAsk conf searched (requests.Inc key step ttl) = length key < 2 ^ 32
-MayAsk conf searched (requests.Cas key expect set) = length key < 2 ^ 32
-MayAsk conf searched (requests.Entry g) = length g.levels ≤ most_levels
-MayAsk conf searched requests.Clear = Unit {0}
-MayAsk conf searched (requests.KeyInfo key) = length key < 2 ^ 32
-MayAsk conf searched (requests.CacheInfo limited) = Unit {0}
-MayAsk conf searched (requests.SmaInfo limited) = Unit {0}
-MayAsk conf searched (requests.Chunk wanted from size list fields) =
+abbrev pub MayBeAsked : Conf → Option Pattern → Request → Type 0
+MayBeAsked conf searched (requests.Store key value ttl exclusive) = length key < 2 ^ 32
+MayBeAsked conf searched (requests.Fetch key) = length key < 2 ^ 32
+MayBeAsked conf searched (requests.Exists key) = length key < 2 ^ 32
+MayBeAsked conf searched (requests.Delete key) = length key < 2 ^ 32
+MayBeAsked conf searched (requests.Inc key step ttl) = length key < 2 ^ 32
+MayBeAsked conf searched (requests.Cas key expect set) = length key < 2 ^ 32
+MayBeAsked conf searched (requests.Entry g) = length g.levels ≤ most_levels
+MayBeAsked conf searched requests.Clear = Unit {0}
+MayBeAsked conf searched (requests.KeyInfo key) = length key < 2 ^ 32
+MayBeAsked conf searched (requests.CacheInfo limited) = Unit {0}
+MayBeAsked conf searched (requests.SmaInfo limited) = Unit {0}
+MayBeAsked conf searched (requests.Chunk wanted from size list fields) =
     MaySearch conf searched wanted from size
-MayAsk conf searched (requests.ChunkDelete wanted from size) =
+MayBeAsked conf searched (requests.ChunkDelete wanted from size) =
     MaySearch conf searched wanted from size
-MayAsk conf searched (requests.Totals wanted list) = IsSearch searched wanted
-MayAsk conf searched requests.Retire = Unit {0}
+MayBeAsked conf searched (requests.Totals wanted list) = IsSearch searched wanted
+MayBeAsked conf searched requests.Retire = Unit {0}

@@ -8,7 +8,7 @@ abbrev pub HasKeyIn : List Row → Window → Type 0
 HasKeyIn rows w = (row : Row) → Contains rows row → row.number ≡ w.number → row.key ≡ w.key
 
 -- the place of a row of this number; 0 only where there is none
-pub record IsPlaceOf (rows : List Row) (number at : ℕ) : Type 0 where
+pub record IsRowPlace (rows : List Row) (number at : ℕ) : Type 0 where
   pub there : at ≢ 0
       → (row : Row) × Contains rows row × (row.number ≡ number) × (row.place ≡ at)
   pub none : at ≡ 0 → (row : Row) → Contains rows row → row.number ≢ number
@@ -16,4 +16,4 @@ pub record IsPlaceOf (rows : List Row) (number at : ℕ) : Type 0 where
 -- the place that is held for a worker with this window
 abbrev pub IsHeldFor : List Row → Option Window → ℕ → Type 0
 IsHeldFor rows None at = at ≡ 0
-IsHeldFor rows (Some w) at = IsPlaceOf rows w.number at
+IsHeldFor rows (Some w) at = IsRowPlace rows w.number at

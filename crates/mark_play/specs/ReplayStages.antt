@@ -17,9 +17,9 @@ pub record Replayed : Type 0 where
   pub stage : Stage
   pub left : ℕ
 
-abbrev pub number_in : Option Window → Option ℕ
-number_in None = None
-number_in (Some w) = Some w.number
+abbrev pub window_number : Option Window → Option ℕ
+window_number None = None
+window_number (Some w) = Some w.number
 
 -- a window's number was given to a row, and only one of the window's key can have it
 pub record IsWindowIn (c : Cache) (w : Window) : Type 0 where
@@ -42,7 +42,7 @@ pub record IsReached {X : Type 0} (g : Ghosts X (List ℕ)) (core : Core) (words
   pub cache : cache_of core ≡ m.cache
   pub full : length windows ≡ 64
   pub seats : length (g.rest words) ≡ 64
-  pub numbers : (v : ℕ) → v < 64 → number_in (slice_index_or windows v None) ≡ window_of m v
+  pub numbers : (v : ℕ) → v < 64 → window_number (slice_index_or windows v None) ≡ window_of m v
   pub keys : (v : ℕ) (w : Window) → slice_index_or windows v None ≡ Some w
       → IsWindowIn m.cache w
   pub history : IsStage m left

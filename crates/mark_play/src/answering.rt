@@ -11,7 +11,7 @@ ghost use Rattle.cache_core.specs.CoreCache.{cache_of, CacheStands};
 ghost use Rattle.cache_core.specs.Events.{DoesIf, MayInsert};
 ghost use Rattle.cache_core.specs.Integers.{NameNoScalar};
 ghost use Rattle.counter_entry.specs.Numbers.{reply_of};
-ghost use Rattle.mark_play.specs.Asks.{MayAsk};
+ghost use Rattle.mark_play.specs.Asks.{MayBeAsked};
 ghost use Rattle.entry_slots.specs.Lists.{has_place};
 ghost use Rattle.entry_slots.specs.Entries.{IsListed, listed};
 ghost use Rattle.entry_slots.specs.Standing.{Stand, entries};
@@ -138,7 +138,7 @@ pub(crate) fn answer<S: Segment>(
     search: &mut Search,
     t: u64,
 ) -> Result<(Reply, Option<Window>), AllocError>
-    requires may { MayAsk (cache_of core.old).conf search.old (asked ask) }
+    requires may { MayBeAsked (cache_of core.old).conf search.old (asked ask) }
     requires ready { MayInsert S.WordsIn false core.old seg.old }
     requires unnamed { NameNoScalar (S.aside seg.old).windows (cache_of core.old).rows }
     ensures does { DoesIf S.WordsIn core.old core.new seg.old seg.new t (asked ask.entry) result

@@ -8,7 +8,7 @@ ghost use Rattle.apcu_model.specs.Cache.{Row};
 ghost use Rattle.entry_slots.specs.Entries.{listed};
 ghost use Rattle.entry_slots.specs.Standing.{Stand, entries};
 ghost use Rattle.apcu_model.specs.History.{Stage};
-ghost use Rattle.mark_play.specs.HeldPlaces.{HasKeyIn, IsHeldFor, IsPlaceOf};
+ghost use Rattle.mark_play.specs.HeldPlaces.{HasKeyIn, IsHeldFor, IsRowPlace};
 ghost use Rattle.mark_play.specs.EventStarts.{HasReached, Begins};
 ghost use Rattle.mark_play.specs.ReplayStages.{IsReached};
 
@@ -23,7 +23,7 @@ use std::marker::Model;
 fn row_of<S: Segment>(slots: &EntrySlots, seg: &mut S, window: &Window) -> u32
     requires stand { Stand S.WordsIn slots.now seg.old }
     requires key { HasKeyIn (listed (entries slots.now)) window.now }
-    ensures place { IsPlaceOf (entries slots.now).rows window.now.number result }
+    ensures place { IsRowPlace (entries slots.now).rows window.now.number result }
     ensures kept { Kept S.WordsIn seg.old seg.new }
 {
     lower_laws();
@@ -39,7 +39,7 @@ fn row_of<S: Segment>(slots: &EntrySlots, seg: &mut S, window: &Window) -> u32
 // The place of the removed row of a number; else 0.
 fn removed_of<S: Segment>(slots: &EntrySlots, seg: &mut S, number: u64) -> u32
     requires stand { Stand S.WordsIn slots.now seg.old }
-    ensures place { IsPlaceOf (entries slots.now).removed number result }
+    ensures place { IsRowPlace (entries slots.now).removed number result }
     ensures kept { Kept S.WordsIn seg.old seg.new }
 {
     lower_laws();
@@ -57,7 +57,7 @@ fn removed_of<S: Segment>(slots: &EntrySlots, seg: &mut S, number: u64) -> u32
 fn place_of<S: Segment>(slots: &EntrySlots, seg: &mut S, window: &Window) -> u32
     requires stand { Stand S.WordsIn slots.now seg.old }
     requires key { HasKeyIn (listed (entries slots.now)) window.now }
-    ensures place { IsPlaceOf (listed (entries slots.now)) window.now.number result }
+    ensures place { IsRowPlace (listed (entries slots.now)) window.now.number result }
     ensures kept { Kept S.WordsIn seg.old seg.new }
 {
     let at = row_of(slots, seg, window);

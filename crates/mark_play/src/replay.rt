@@ -6,7 +6,7 @@ ghost use Rattle.apcu_model.specs.Conf.{IsUsable};
 ghost use Rattle.apcu_model.specs.declared.journal.TheConstants.{MOST_EVENTS};
 ghost use Rattle.apcu_model.specs.Asking.{asked};
 ghost use Rattle.apcu_model.specs.History.{start_of, is_legal_mask, reply_in, after_event};
-ghost use Rattle.mark_play.specs.Asks.{MayAsk};
+ghost use Rattle.mark_play.specs.Asks.{MayBeAsked};
 ghost use Rattle.mark_play.specs.Events.{event_by};
 
 use crate::answering::{Window, answer};
@@ -115,7 +115,7 @@ impl Replay {
     ) -> Result<Reply, AllocError>
         requires worker { worker < 64 }
         requires left { 0 < self.old.left }
-        requires may { MayAsk self.old.stage.cache.conf search.old (asked ask) }
+        requires may { MayBeAsked self.old.stage.cache.conf search.old (asked ask) }
         ensures reply { IfOk result (λ y. y
             ≡ reply_in self.old.stage (event_by worker mask (asked ask.entry) t)) }
         ensures stage { OnOk result (self.new.stage

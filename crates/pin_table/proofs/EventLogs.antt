@@ -14,7 +14,7 @@ use Rattle.pin_table.specs.declared.views.EventLog.{EventLog}
 use Rattle.std.specs.List.{last_or}
 use Rattle.apcu_model.specs.declared.request.Request.TheVariants as request
 use Rattle.pin_table.specs.Events.{event, events_of, fetched_last, is_fetch, HasRetired}
-use Rattle.pin_table.specs.Views.{is_in_hand, is_among, in_hand, newcomer, with_newcomer, with_hand, with_event, known_after, seen_all, with_closed}
+use Rattle.pin_table.specs.Views.{is_in_hand, has_worker, in_hand, newcomer, with_newcomer, with_hand, with_event, known_after, seen_all, with_closed}
 use Rattle.pin_table.specs.Order.{Fits, LogInOrder, PassInOrder}
 use Rattle.pin_table.proofs.WindowLists.{differs, unlike, alike}
 
@@ -83,7 +83,7 @@ moved_here place w n = rw (alike w w refl) refl
 pub moved_else : (place : ℕ → ℕ) (w n v : ℕ) → v ≢ w → moved place w n v ≡ place v
 moved_else place w n v h = rw (unlike v w h) refl
 
-not_among : (ps : List Known) (w k : ℕ) (q : Known) → is_among w ps ≡ false → get_elem? ps k ≡ some q → q.worker ≢ w
+not_among : (ps : List Known) (w k : ℕ) (q : Known) → has_worker w ps ≡ false → get_elem? ps k ≡ some q → q.worker ≢ w
 not_among [] w k q h e = absurd (some-ne-none q (sym e))
 not_among (p ∷ ps) w zero q h e =
     let same : p ≡ q = some-injective p q e in
@@ -116,7 +116,7 @@ hand_unmade : (b : EventLog) → LogInOrder b → (h : Option Known) → b.hand 
 hand_unmade b ok (Some p) e = unlike p.worker b.made (let m = (ok.hand p e).made in λ h. absurd (omega arith))
 hand_unmade b ok None e = refl
 
-closed_unmade : (b : EventLog) → (ps : List Known) → ((k : ℕ) (p : Known) → get_elem? ps k ≡ some p → Fits b p) → is_among b.made ps ≡ false
+closed_unmade : (b : EventLog) → (ps : List Known) → ((k : ℕ) (p : Known) → get_elem? ps k ≡ some p → Fits b p) → has_worker b.made ps ≡ false
 closed_unmade b [] f = refl
 closed_unmade b (p ∷ ps) f =
     let m = (f 0 p refl).made in
@@ -146,7 +146,7 @@ takes_log b place k p ok idle = record {
   none = ok.none;
   bounded = ok.bounded;
   hand = λ q e. let same : p ≡ q = cc e in subst (Fits (with_hand b (Some p))) same (record { made = idle.fits.made; seen = idle.fits.seen; own = idle.fits.own; saw_own = idle.fits.saw_own; budget = idle.fits.budget });
-  away = λ q e. let same : p ≡ q = cc e in subst (λ (r : Known). is_among r.worker b.closed ≡ false) same idle.open_yet;
+  away = λ q e. let same : p ≡ q = cc e in subst (λ (r : Known). has_worker r.worker b.closed ≡ false) same idle.open_yet;
   closed = λ j q e. let f = ok.closed j q e in record { made = f.made; seen = f.seen; own = f.own; saw_own = f.saw_own; budget = f.budget };
 }
 

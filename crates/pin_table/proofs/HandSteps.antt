@@ -12,7 +12,7 @@ use Rattle.pin_table.specs.declared.views.View.{View}
 use Rattle.pin_table.specs.declared.views.View.TheVariants.{Writer, Idle, Copying, Spent}
 use Rattle.pin_table.specs.Events.{is_fetch}
 use Rattle.pin_table.specs.Pins.{pins_on, is_count}
-use Rattle.pin_table.specs.Views.{in_hand, is_in_hand, is_among, with_hand, with_event, known_after, taken_in, copied, reader_after, takes_in}
+use Rattle.pin_table.specs.Views.{in_hand, is_in_hand, has_worker, with_hand, with_event, known_after, taken_in, copied, reader_after, takes_in}
 use Rattle.pin_table.specs.Order.{PassInOrder, ReaderInOrder}
 use Rattle.pin_table.specs.Rule.{IsCarried}
 use Rattle.pin_table.proofs.WindowLists.{differs, unlike, alike, at_end, at_less, pins_on-set}
@@ -37,7 +37,7 @@ takes d other p nobody s kept at away there = record {
   copies = copies_join a.copying s.views d (taken_in d p) p other a.at there a.copies;
 }
   where
-    older : (w : ℕ) → w < d.log.made → is_in_hand w (with_hand d.log (Some p)).hand ≡ false → is_among w (with_hand d.log (Some p)).closed ≡ false → (w ≢ p.worker) × (w < d.log.made) × (is_in_hand w d.log.hand ≡ false) × (is_among w d.log.closed ≡ false)
+    older : (w : ℕ) → w < d.log.made → is_in_hand w (with_hand d.log (Some p)).hand ≡ false → has_worker w (with_hand d.log (Some p)).closed ≡ false → (w ≢ p.worker) × (w < d.log.made) × (is_in_hand w d.log.hand ≡ false) × (has_worker w d.log.closed ≡ false)
     older w m h c = ((λ e. differs p.worker w h (sym e)), m, ap (is_in_hand w) nobody, c)
 
     a : At s.words s.views d
@@ -73,7 +73,7 @@ pins_out d e p inhand same fetch some_left some_block s kept at = record {
   copies = copies_out a.copying s.views d (copied d e) (reader_after d e) p.worker a.at free a.copies;
 }
   where
-    older : (w : ℕ) → w ≢ p.worker → w < d.log.made → is_in_hand w None ≡ false → is_among w d.log.closed ≡ false → (w < d.log.made) × (is_in_hand w d.log.hand ≡ false) × (is_among w d.log.closed ≡ false)
+    older : (w : ℕ) → w ≢ p.worker → w < d.log.made → is_in_hand w None ≡ false → has_worker w d.log.closed ≡ false → (w < d.log.made) × (is_in_hand w d.log.hand ≡ false) × (has_worker w d.log.closed ≡ false)
     older w n m h c = (m, ap (is_in_hand w) inhand ∙ unlike p.worker w (λ e. n (sym e)), c)
 
     a : At s.words s.views d

@@ -6,7 +6,7 @@ use lib.ListN.{get_elem?}
 use Rattle.atomic_table.specs.Seated.{TableId}
 use Rattle.pin_table.specs.declared.views.Known.{Known}
 use Rattle.pin_table.specs.Values.{PassView}
-use Rattle.pin_table.specs.Views.{is_among}
+use Rattle.pin_table.specs.Views.{has_worker}
 use Rattle.pin_table.specs.Lists.{known_list, AllOf}
 
 pub get_front : {A : Type 0} (xs ys : List A) (k : ℕ) (x : A) → slice_get xs k ≡ Some x → slice_get (xs ++ ys) k ≡ Some x
@@ -35,9 +35,9 @@ known_of_list [] k p h = absurd cc
 known_of_list (b ∷ bs) zero p h = (b, refl, cc (h))
 known_of_list (b ∷ bs) (suc k) p h = known_of_list bs k p h
 
-pub among_front : (ps qs : List Known) (w : ℕ) → is_among w ps ≡ true → is_among w (ps ++ qs) ≡ true
+pub among_front : (ps qs : List Known) (w : ℕ) → has_worker w ps ≡ true → has_worker w (ps ++ qs) ≡ true
 among_front [] qs w h = absurd (false≢true h)
-among_front (p ∷ ps) qs w h = elim (or_cases (p.worker == w) (is_among w ps) h) [
-  | inl e ↦ or_left (p.worker == w) (is_among w (ps ++ qs)) e
-  | inr r ↦ or_right (p.worker == w) (is_among w (ps ++ qs)) (among_front ps qs w r)
+among_front (p ∷ ps) qs w h = elim (or_cases (p.worker == w) (has_worker w ps) h) [
+  | inl e ↦ or_left (p.worker == w) (has_worker w (ps ++ qs)) e
+  | inr r ↦ or_right (p.worker == w) (has_worker w (ps ++ qs)) (among_front ps qs w r)
 ]

@@ -12,7 +12,7 @@ use Rattle.pin_table.specs.declared.views.WriterState.{WriterState}
 use Rattle.pin_table.specs.declared.views.View.{View}
 use Rattle.pin_table.specs.declared.views.View.TheVariants.{Writer, Idle, Copying, Spent}
 use Rattle.pin_table.specs.Pins.{pins_on, is_count}
-use Rattle.pin_table.specs.Views.{is_in_hand, is_among, carries, copied_block, copied_blocks}
+use Rattle.pin_table.specs.Views.{is_in_hand, has_worker, carries, copied_block, copied_blocks}
 use Rattle.pin_table.specs.Order.{AllPlaced}
 use Rattle.pin_table.proofs.WindowLists.{at_less, same_there, pins_on-set}
 use Rattle.pin_table.proofs.EventLogs.{moved, moved_here, moved_else}
@@ -28,7 +28,7 @@ placed_writer b place views d u at all w made hand closed =
 
 -- .. and there is a new pass, of the worker v
 pub placed_cut : (b c : EventLog) (place : ℕ → ℕ) (views : List View) (d : WriterState) (u new : View) (v : ℕ) → get_elem? views 0 ≡ some (Writer d) → carries v new ≡ true
-    → ((w : ℕ) → w ≢ v → w < c.made → is_in_hand w c.hand ≡ false → is_among w c.closed ≡ false → (w < b.made) × (is_in_hand w b.hand ≡ false) × (is_among w b.closed ≡ false))
+    → ((w : ℕ) → w ≢ v → w < c.made → is_in_hand w c.hand ≡ false → has_worker w c.closed ≡ false → (w < b.made) × (is_in_hand w b.hand ≡ false) × (has_worker w b.closed ≡ false))
     → AllPlaced b place views → AllPlaced c (moved place v (length views)) (set views 0 u ++ new ∷ [])
 placed_cut b c place views d u new v at mine older all w made hand closed = go (ℕ_discrete w v)
   where
@@ -46,7 +46,7 @@ placed_cut b c place views d u new v at mine older all w made hand closed = go (
 
 -- .. and a pass is spent
 pub placed_join : (b c : EventLog) (place : ℕ → ℕ) (views : List View) (d : WriterState) (u : View) (p : Known) (other : ℕ) → get_elem? views 0 ≡ some (Writer d) → get_elem? views other ≡ some (Idle p)
-    → ((w : ℕ) → w < c.made → is_in_hand w c.hand ≡ false → is_among w c.closed ≡ false → (w ≢ p.worker) × (w < b.made) × (is_in_hand w b.hand ≡ false) × (is_among w b.closed ≡ false))
+    → ((w : ℕ) → w < c.made → is_in_hand w c.hand ≡ false → has_worker w c.closed ≡ false → (w ≢ p.worker) × (w < b.made) × (is_in_hand w b.hand ≡ false) × (has_worker w b.closed ≡ false))
     → AllPlaced b place views → AllPlaced c place (set (set views 0 u) other Spent)
 placed_join b c place views d u p other at there older all w made hand closed =
     let o = older w made hand closed in

@@ -19,7 +19,7 @@ use Rattle.pin_table.specs.declared.views.View.{View}
 use Rattle.pin_table.specs.declared.views.View.TheVariants.{Writer, Idle, Copying, Spent}
 use Rattle.pin_table.specs.Events.{fetched_last}
 use Rattle.pin_table.specs.Pins.{pins_on, content_of}
-use Rattle.pin_table.specs.Views.{in_hand, is_in_hand, is_among, newcomer, with_newcomer, with_hand, with_event, known_after, seen_all, with_closed, state_of, with_log, rested, shut, on_state, from_log, closes, first_view}
+use Rattle.pin_table.specs.Views.{in_hand, is_in_hand, has_worker, newcomer, with_newcomer, with_hand, with_event, known_after, seen_all, with_closed, state_of, with_log, rested, shut, on_state, from_log, closes, first_view}
 use Rattle.pin_table.specs.Order.{PassInOrder, StateInOrder, Carried, AllPlaced}
 use Rattle.pin_table.specs.Rule.{IsCarried}
 use Rattle.pin_table.proofs.WindowLists.{differs, unlike, alike, at_end, pins_none}
@@ -178,8 +178,8 @@ closed_in d other p nobody s kept at away there = record {
   copies = copies_join a.copying s.views d (shut d p) p other a.at there a.copies;
 }
   where
-    older : (w : ℕ) → w < d.log.made → is_in_hand w (with_closed d.log p).hand ≡ false → is_among w (with_closed d.log p).closed ≡ false → (w ≢ p.worker) × (w < d.log.made) × (is_in_hand w d.log.hand ≡ false) × (is_among w d.log.closed ≡ false)
-    older w m h c = let f = both_false (p.worker == w) (is_among w d.log.closed) c in ((λ e. differs p.worker w f.0 (sym e)), m, h, f.1)
+    older : (w : ℕ) → w < d.log.made → is_in_hand w (with_closed d.log p).hand ≡ false → has_worker w (with_closed d.log p).closed ≡ false → (w ≢ p.worker) × (w < d.log.made) × (is_in_hand w d.log.hand ≡ false) × (has_worker w d.log.closed ≡ false)
+    older w m h c = let f = both_false (p.worker == w) (has_worker w d.log.closed) c in ((λ e. differs p.worker w f.0 (sym e)), m, h, f.1)
 
     a : At s.words s.views d
     a = at_state s.words s.views d kept at
@@ -192,7 +192,7 @@ closed_in d other p nobody s kept at away there = record {
         ⊎_elim (λ (u : (k ≡ 0) × (Writer (shut d p) ≡ v)). absurd (nw u.1)) (λ (u : (k ≢ 0) × (get_elem? s.views k ≡ some v)). (t.0, u.1)) (at_set s.views 0 k (Writer (shut d p)) v t.1)) (at_set (set s.views 0 (Writer (shut d p))) other k Spent v h)
 
 -- at the end the words are the writer's
-pub dissolves : (s : State ℕ View) (d : WriterState) → IsCarried s → get_elem? s.views 0 ≡ some (Writer d) → d.pinning ≡ 0 → ((w : ℕ) → w < d.log.made → is_among w d.log.closed ≡ true) → s.words ≡ d.words
+pub dissolves : (s : State ℕ View) (d : WriterState) → IsCarried s → get_elem? s.views 0 ≡ some (Writer d) → d.pinning ≡ 0 → ((w : ℕ) → w < d.log.made → has_worker w d.log.closed ≡ true) → s.words ≡ d.words
 dissolves s d kept at nothing every = ext_get_or 0 s.words d.words (at_state s.words s.views d kept at).count (λ i _. let z = pins_none i (d.pinning ∷ a.copying) (nobody i) in omega (arith, a.each_word i, z))
   where
     a : At s.words s.views d
@@ -202,7 +202,7 @@ dissolves s d kept at nothing every = ext_get_or 0 s.words d.words (at_state s.w
     nobody i zero b h pos = let e : d.pinning ≡ b = some-injective d.pinning b h in absurd (omega (arith, e, nothing))
     nobody i (suc v) b h pos = made (dec_le (suc v) d.log.made)
       where
-        f : (is_in_hand v d.log.hand ≡ false) × (is_among v d.log.closed ≡ false) × (fetched_last v d.log.history false ≡ true)
+        f : (is_in_hand v d.log.hand ≡ false) × (has_worker v d.log.closed ≡ false) × (fetched_last v d.log.history false ≡ true)
         f = let x = at_state s.words s.views d kept at in x.state_ok.fetched v b (x.state_ok.pins v b h pos) pos
 
         made : Dec (suc v ≤ d.log.made) → i ≢ b + PIN_COUNT

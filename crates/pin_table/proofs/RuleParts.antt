@@ -12,7 +12,7 @@ use Rattle.pin_table.specs.declared.views.View.{View}
 use Rattle.pin_table.specs.declared.views.View.TheVariants.{Writer, Idle, Copying, Spent}
 use Rattle.pin_table.specs.Events.{fetched_last}
 use Rattle.pin_table.specs.Pins.{IsBlock}
-use Rattle.pin_table.specs.Views.{is_in_hand, is_among, known_of, named_blocks, carries}
+use Rattle.pin_table.specs.Views.{is_in_hand, has_worker, known_of, named_blocks, carries}
 use Rattle.pin_table.specs.Order.{Fits, PassInOrder, Carried}
 use Rattle.pin_table.specs.Rule.{WordsAreWriters, PassesAreOne, HistoriesAgree, WindowsAreFetches, CountsAreCopies, BlocksAreApart, Rule}
 use Rattle.pin_table.proofs.WindowLists.{there_named, told_not, pins_none}
@@ -25,11 +25,11 @@ length_range (x ∷ xs) zero (suc n) h = omega (arith, length_range xs 0 n (omeg
 length_range [] (suc m) n h = absurd (omega (arith, h))
 length_range (x ∷ xs) (suc m) n h = length_range xs m n (omega (arith, h))
 
-among_there : (ps : List Known) (w : ℕ) → is_among w ps ≡ true → (k : ℕ) × (p : Known) × (get_elem? ps k ≡ some p) × (p.worker ≡ w)
+among_there : (ps : List Known) (w : ℕ) → has_worker w ps ≡ true → (k : ℕ) × (p : Known) × (get_elem? ps k ≡ some p) × (p.worker ≡ w)
 among_there [] w h = absurd (false≢true h)
-among_there (q ∷ qs) w h = go (among_there qs w) (or_cases (q.worker == w) (is_among w qs) h)
+among_there (q ∷ qs) w h = go (among_there qs w) (or_cases (q.worker == w) (has_worker w qs) h)
   where
-    go : (is_among w qs ≡ true → (k : ℕ) × (p : Known) × (get_elem? qs k ≡ some p) × (p.worker ≡ w)) → ((q.worker == w) ≡ true) ⊎ (is_among w qs ≡ true)
+    go : (has_worker w qs ≡ true → (k : ℕ) × (p : Known) × (get_elem? qs k ≡ some p) × (p.worker ≡ w)) → ((q.worker == w) ≡ true) ⊎ (has_worker w qs ≡ true)
         → (k : ℕ) × (p : Known) × (get_elem? (q ∷ qs) k ≡ some p) × (p.worker ≡ w)
     go later (inl e) = (0, q, refl, eqb-true q.worker w e)
     go later (inr r) = let t = later r in (suc t.0, t.1, t.2, t.3)
@@ -63,17 +63,17 @@ module _ (words : List ℕ) (views : List View) (kept : Carried words views) whe
     few = omega (arith, kept.state_ok.log.count, kept.state_ok.all_seats, kept.state_ok.few);
   }
     where
-      from : (w k : ℕ) (p : Known) → PassInOrder kept.state.log kept.place k p → (p.worker == w) ≡ true → (kept.place w ≡ k) × (w < kept.state.log.made) × (is_in_hand w kept.state.log.hand ≡ false) × (is_among w kept.state.log.closed ≡ false)
-      from w k p ok same = subst (λ u. (kept.place u ≡ k) × (u < kept.state.log.made) × (is_in_hand u kept.state.log.hand ≡ false) × (is_among u kept.state.log.closed ≡ false)) (eqb-true p.worker w same) (ok.placed, ok.fits.made, ok.away, ok.open_yet)
+      from : (w k : ℕ) (p : Known) → PassInOrder kept.state.log kept.place k p → (p.worker == w) ≡ true → (kept.place w ≡ k) × (w < kept.state.log.made) × (is_in_hand w kept.state.log.hand ≡ false) × (has_worker w kept.state.log.closed ≡ false)
+      from w k p ok same = subst (λ u. (kept.place u ≡ k) × (u < kept.state.log.made) × (is_in_hand u kept.state.log.hand ≡ false) × (has_worker u kept.state.log.closed ≡ false)) (eqb-true p.worker w same) (ok.placed, ok.fits.made, ok.away, ok.open_yet)
 
-      once : (w k : ℕ) (v : View) → get_elem? views k ≡ some v → carries w v ≡ true → (kept.place w ≡ k) × (w < kept.state.log.made) × (is_in_hand w kept.state.log.hand ≡ false) × (is_among w kept.state.log.closed ≡ false)
+      once : (w k : ℕ) (v : View) → get_elem? views k ≡ some v → carries w v ≡ true → (kept.place w ≡ k) × (w < kept.state.log.made) × (is_in_hand w kept.state.log.hand ≡ false) × (has_worker w kept.state.log.closed ≡ false)
       once w k (Writer x) h c = absurd (false≢true c)
       once w k (Idle p) h c = from w k p (kept.idle k p h).0 c
       once w k (Copying q) h c = from w k q.known (kept.copy k q h).0 c
       once w k Spent h c = absurd (false≢true c)
 
-      in_hand_made : (w : ℕ) (o : Option Known) → kept.state.log.hand ≡ o → is_in_hand w o ≡ true → (w < kept.state.log.made) × (is_among w kept.state.log.closed ≡ false)
-      in_hand_made w (Some p) e t = subst (λ u. (u < kept.state.log.made) × (is_among u kept.state.log.closed ≡ false)) (eqb-true p.worker w t) ((kept.state_ok.log.hand p e).made, kept.state_ok.log.away p e)
+      in_hand_made : (w : ℕ) (o : Option Known) → kept.state.log.hand ≡ o → is_in_hand w o ≡ true → (w < kept.state.log.made) × (has_worker w kept.state.log.closed ≡ false)
+      in_hand_made w (Some p) e t = subst (λ u. (u < kept.state.log.made) × (has_worker u kept.state.log.closed ≡ false)) (eqb-true p.worker w t) ((kept.state_ok.log.hand p e).made, kept.state_ok.log.away p e)
       in_hand_made w None e t = absurd (false≢true t)
 
       no_window : (w at : ℕ) → kept.state.log.made ≤ w → get_elem? kept.state.windows w ≡ some at → at ≡ 0

@@ -15,9 +15,9 @@ use Rattle.pin_table.specs.declared.views.View.{View}
 use Rattle.pin_table.specs.declared.views.View.TheVariants.{Writer, Idle, Copying, Spent}
 use Rattle.pin_table.specs.Events.{is_fetch}
 use Rattle.pin_table.specs.Pins.{IsBlock, AreApart, refused_in}
-use Rattle.pin_table.specs.Views.{in_hand, is_among, newcomer, with_newcomer, with_log, with_hand, with_event, known_after, seen_all, rested, copied, reader_after, on_state, from_log, takes_in, closes, first_view}
+use Rattle.pin_table.specs.Views.{in_hand, has_worker, newcomer, with_newcomer, with_log, with_hand, with_event, known_after, seen_all, rested, copied, reader_after, on_state, from_log, takes_in, closes, first_view}
 use Rattle.pin_table.specs.Rule.{IsRuled}
-use Rattle.pin_table.specs.Plays.{Looks, Reads, Writes, Probes, Pins, Copies, Releases}
+use Rattle.pin_table.specs.Plays.{Looks, ReadsTold, Writes, Probes, Pins, Copies, Releases}
 use Rattle.pin_table.proofs.WriterStates.{Outside}
 use Rattle.pin_table.proofs.RuleParts.{rule_of}
 use Rattle.pin_table.proofs.WriterSteps as steps
@@ -54,7 +54,7 @@ pub looks : (slots : ℕ) (d : WriterState) (i : ℕ) → Allows {S = ℕ} {V = 
 looks slots d i s rule count at fits = let r = steps.looks slots d i s rule.carried count at fits in (r.0, r.1, r.2, rule_of _ _ r.3, r.4)
 
 -- the writer loads a word
-pub reads : (slots : ℕ) (d : WriterState) (i : ℕ) → Allows {S = ℕ} {V = View} IsRuled slots 0 (Writer d, []) i (λ n. n) (Reads (step slots i 0 0 none) (Writer d, []))
+pub reads : (slots : ℕ) (d : WriterState) (i : ℕ) → Allows {S = ℕ} {V = View} IsRuled slots 0 (Writer d, []) i (λ n. n) (ReadsTold (step slots i 0 0 none) (Writer d, []))
 reads slots d i s rule count at fits = let r = steps.reads slots d i s rule.carried count at fits in (r.0, r.1, r.2, rule_of _ _ r.3, r.4)
 
 -- the writer stores a word on which nobody relies that copies
@@ -88,5 +88,5 @@ pub releases : (slots id : ℕ) (c : Reader) → Allows {S = ℕ} {V = View} IsR
 releases slots id c s rule count at fits = let r = more.releases slots id c s rule.carried count at fits in (r.0, r.1, r.2, rule_of _ _ r.3, r.4)
 
 -- at the end the words are the writer's
-pub dissolves : (s : State ℕ View) (d : WriterState) → IsRuled s → get_elem? s.views 0 ≡ some (Writer d) → d.pinning ≡ 0 → ((w : ℕ) → w < d.log.made → is_among w d.log.closed ≡ true) → s.words ≡ d.words
+pub dissolves : (s : State ℕ View) (d : WriterState) → IsRuled s → get_elem? s.views 0 ≡ some (Writer d) → d.pinning ≡ 0 → ((w : ℕ) → w < d.log.made → has_worker w d.log.closed ≡ true) → s.words ≡ d.words
 dissolves s d rule at nothing every = first.dissolves s d rule.carried at nothing every

@@ -16,7 +16,7 @@ use Rattle.pin_table.specs.declared.views.Reader.{Reader}
 use Rattle.pin_table.specs.declared.views.WriterState.{WriterState}
 use Rattle.pin_table.specs.Events.{fetched_last, is_fetch}
 use Rattle.pin_table.specs.Pins.{pins_on, content_of, IsBlock, AreApart, refused_in}
-use Rattle.pin_table.specs.Views.{in_hand, is_in_hand, is_among, with_hand, with_event, with_closed, named_blocks, with_words, with_log, rested, taken_in, shut, freed, met, pinning_at, copied}
+use Rattle.pin_table.specs.Views.{in_hand, is_in_hand, has_worker, with_hand, with_event, with_closed, named_blocks, with_words, with_log, rested, taken_in, shut, freed, met, pinning_at, copied}
 use Rattle.pin_table.specs.Order.{LogInOrder, StateInOrder, ReaderInOrder}
 use Rattle.pin_table.proofs.WindowLists.{named_there, differs, unlike, alike, at_less, at_there, same_there, closed_back, closed_keeps, length-closed, holders_bit, held_bit, or_bit, pins_none, range_set}
 use Rattle.pin_table.proofs.EventLogs.{fetched_after, fetched_nothing}
@@ -245,7 +245,7 @@ state_shut d copying p ok nobody log free = record {
 
 -- the worker in the hand leaves it
 pub state_rested : (d : WriterState) (copying : List ℕ) (b : EventLog) → StateInOrder d copying → LogInOrder b → length b.budgets ≡ length d.log.budgets → b.hand ≡ None
-    → ((v at : ℕ) → get_elem? d.windows v ≡ some at → 0 < at → (is_among v b.closed ≡ false) × (fetched_last v b.history false ≡ true)) → StateInOrder (rested d b) copying
+    → ((v at : ℕ) → get_elem? d.windows v ≡ some at → 0 < at → (has_worker v b.closed ≡ false) × (fetched_last v b.history false ≡ true)) → StateInOrder (rested d b) copying
 state_rested d copying b ok log seats nobody fetched = record {
   log = log;
   few = ok.few;
@@ -261,7 +261,7 @@ state_rested d copying b ok log seats nobody fetched = record {
 }
 
 pub other_fetched : (d : WriterState) (copying : List ℕ) (e : Event) (p : Known) → StateInOrder d copying → d.log.hand ≡ Some p → e.worker ≡ p.worker
-    → (v at : ℕ) → get_elem? d.windows v ≡ some at → 0 < at → (v ≢ p.worker) × (is_among v d.log.closed ≡ false) × (fetched_last v (d.log.history ++ e ∷ []) false ≡ true)
+    → (v at : ℕ) → get_elem? d.windows v ≡ some at → 0 < at → (v ≢ p.worker) × (has_worker v d.log.closed ≡ false) × (fetched_last v (d.log.history ++ e ∷ []) false ≡ true)
 other_fetched d copying e p ok inhand same v at h pos =
     let f = ok.fetched v at h pos in
     let away : (p.worker == v) ≡ false = ap (is_in_hand v) (sym inhand) ∙ f.0 in
@@ -278,7 +278,7 @@ state_made d copying b ok log budgets hand history closed = record {
   seats = ok.seats;
   all_seats = ap length budgets ∙ ok.all_seats;
   pins = ok.pins;
-  fetched = λ v at h pos. let f = ok.fetched v at h pos in (ap (is_in_hand v) hand ∙ f.0, ap (is_among v) closed ∙ f.1, ap (λ es. fetched_last v es false) history ∙ f.2);
+  fetched = λ v at h pos. let f = ok.fetched v at h pos in (ap (is_in_hand v) hand ∙ f.0, ap (has_worker v) closed ∙ f.1, ap (λ es. fetched_last v es false) history ∙ f.2);
   stand = ok.stand;
   apart = ok.apart;
   unread = ok.unread;
@@ -306,12 +306,12 @@ state_copied d copying e p ok log inhand same fetch = record {
     who : (in_hand d.log.hand).worker ≡ p.worker
     who = ap (λ h. (in_hand h).worker) inhand
 
-    fetched' : (v at : ℕ) → get_elem? (set d.windows p.worker d.pinning) v ≡ some at → 0 < at → (is_in_hand v None ≡ false) × (is_among v d.log.closed ≡ false) × (fetched_last v (d.log.history ++ e ∷ []) false ≡ true)
+    fetched' : (v at : ℕ) → get_elem? (set d.windows p.worker d.pinning) v ≡ some at → 0 < at → (is_in_hand v None ≡ false) × (has_worker v d.log.closed ≡ false) × (fetched_last v (d.log.history ++ e ∷ []) false ≡ true)
     fetched' v at h pos = ⊎_elim
         (λ (t : (v ≡ p.worker) × (d.pinning ≡ at)).
         let mine : (e.worker == v) ≡ true = alike e.worker v (same ∙ sym t.0) in (
           refl,
-          ap (λ u. is_among u d.log.closed) t.0 ∙ ok.log.away p inhand,
+          ap (λ u. has_worker u d.log.closed) t.0 ∙ ok.log.away p inhand,
           fetched_after v d.log.history e false ∙ rw mine fetch,
         ))
         (λ (t : (v ≢ p.worker) × (get_elem? d.windows v ≡ some at)). let f = other_fetched d copying e p ok inhand same v at t.1 pos in (refl, f.1, f.2))

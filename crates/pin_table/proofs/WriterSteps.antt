@@ -20,7 +20,7 @@ use Rattle.pin_table.specs.Pins.{pins_on, is_count, content_of, refused_in}
 use Rattle.pin_table.specs.Views.{named_blocks, with_words, freed, met}
 use Rattle.pin_table.specs.Order.{PassInOrder, StateInOrder, ReaderInOrder, Carried, AllPlaced}
 use Rattle.pin_table.specs.Rule.{IsCarried}
-use Rattle.pin_table.specs.Plays.{Looks, Reads, Writes, Probes}
+use Rattle.pin_table.specs.Plays.{Looks, ReadsTold, Writes, Probes}
 use Rattle.pin_table.proofs.WindowLists.{set_same, at_less, named_there, there_named, uncounted, pins_pos, pins_none, pins_exists, told_not}
 use Rattle.pin_table.proofs.PassPlaces.{SameCopies, placed_writer, copies_writer}
 use Rattle.pin_table.proofs.WriterStates.{Outside, state_store, copy_store, none_outside, state_freed, state_refused, not_held}
@@ -108,7 +108,7 @@ module _ (slots : ℕ) (d : WriterState) where
     (refl, ((at_state s.words s.views d kept at).copying, (at_state s.words s.views d kept at).state_ok)),
   )
 
-  pub reads : (i : ℕ) → Allows {S = ℕ} {V = View} IsCarried slots 0 (Writer d, []) i (λ n. n) (Reads (step slots i 0 0 none) (Writer d, []))
+  pub reads : (i : ℕ) → Allows {S = ℕ} {V = View} IsCarried slots 0 (Writer d, []) i (λ n. n) (ReadsTold (step slots i 0 0 none) (Writer d, []))
   reads i s kept _ at fits = (
     Writer d,
     keeps,

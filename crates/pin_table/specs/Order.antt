@@ -17,7 +17,7 @@ use Rattle.pin_table.specs.declared.views.View.{View}
 use Rattle.pin_table.specs.declared.views.View.TheVariants.{Writer, Idle, Copying}
 use Rattle.pin_table.specs.Events.{events_of, is_fetch, fetched_last}
 use Rattle.pin_table.specs.Pins.{pins_on, IsBlock, AreApart, content_of, refused_in, freed_in}
-use Rattle.pin_table.specs.Views.{is_in_hand, is_among, named_blocks, carries, copied_blocks}
+use Rattle.pin_table.specs.Views.{is_in_hand, has_worker, named_blocks, carries, copied_blocks}
 
 -- What a worker knows fits the writer's log: it was made, it has seen a beginning of the history,
 -- its own events are all of its events there and in the whole history, and with those left they are
@@ -36,7 +36,7 @@ pub record LogInOrder (b : EventLog) : Type 0 where
   pub none : (w : ℕ) → b.made ≤ w → events_of w b.history ≡ []
   pub bounded : (w : ℕ) → w < b.made → length (events_of w b.history) ≤ slice_index b.budgets w
   pub hand : (p : Known) → b.hand ≡ Some p → Fits b p
-  pub away : (p : Known) → b.hand ≡ Some p → is_among p.worker b.closed ≡ false
+  pub away : (p : Known) → b.hand ≡ Some p → has_worker p.worker b.closed ≡ false
   pub closed : (k : ℕ) (p : Known) → get_elem? b.closed k ≡ some p → Fits b p
 
 -- The pass of the seat k is in order. `place` gives each worker's seat, so no worker has two.
@@ -44,7 +44,7 @@ pub record PassInOrder (b : EventLog) (place : ℕ → ℕ) (k : ℕ) (p : Known
   pub fits : Fits b p
   pub placed : place p.worker ≡ k
   pub away : is_in_hand p.worker b.hand ≡ false
-  pub open_yet : is_among p.worker b.closed ≡ false
+  pub open_yet : has_worker p.worker b.closed ≡ false
 
 -- The writer's state is in order, where the worker v copies from the block (slice_index copying v)
 -- just now, if it is not 0.
@@ -57,7 +57,7 @@ pub record StateInOrder (d : WriterState) (copying : List ℕ) : Type 0 where
   pub pins : (v at : ℕ) → get_elem? copying v ≡ some at → 0 < at → get_elem? d.windows v ≡ some at
   -- a window is open from a fetch until its worker comes into the hand or is taken in
   pub fetched : (v at : ℕ) → get_elem? d.windows v ≡ some at → 0 < at
-      → (is_in_hand v d.log.hand ≡ false) × (is_among v d.log.closed ≡ false)
+      → (is_in_hand v d.log.hand ≡ false) × (has_worker v d.log.closed ≡ false)
       × (fetched_last v d.log.history false ≡ true)
   pub stand : (j at : ℕ) → get_elem? (named_blocks d) j ≡ some at → 0 < at → IsBlock d.words at
   pub apart : (j k a b : ℕ) → get_elem? (named_blocks d) j ≡ some a
@@ -90,7 +90,7 @@ pub record ReaderInOrder (d : WriterState) (copying : List ℕ) (c : Reader) : T
 -- each worker that was made, is not in the hand and was not taken in has its pass at its place
 abbrev pub AllPlaced : EventLog → (ℕ → ℕ) → List View → Type 0
 AllPlaced b place views = (w : ℕ) → w < b.made → is_in_hand w b.hand ≡ false
-    → is_among w b.closed ≡ false
+    → has_worker w b.closed ≡ false
     → (v : View) × (get_elem? views (place w) ≡ some v) × (carries w v ≡ true)
 
 -- What each step carries from one state of the table to the next, for some state of the writer,

@@ -9,7 +9,8 @@ use Rattle.seg_words.specs.Blocks.{IsTold}
 use Rattle.pin_table.specs.declared.views.View.{View}
 use Rattle.pin_table.specs.declared.views.View.TheVariants.{Writer, Idle}
 use Rattle.pin_table.specs.Order.{StateInOrder}
-use Rattle.pin_table.specs.Views.{state_of, reader_of, named_blocks, with_words, probed, pinning_at}
+use Rattle.pin_table.specs.Views.{state_of, copying_reader, named_blocks, with_words, probed}
+use Rattle.pin_table.specs.Views.{pinning_at}
 
 module _ {S : Type 0} where
   -- nothing changed, and the state is in order
@@ -17,8 +18,8 @@ module _ {S : Type 0} where
   Looks s v n w = (w ≡ v) × ((copying : List ℕ) × StateInOrder (state_of v.0) copying)
 
   -- the writer's load of a word that is told
-  abbrev pub Reads : Step S → Me S View → ℕ → Me S View → Type 0
-  Reads s v n w = (w ≡ v)
+  abbrev pub ReadsTold : Step S → Me S View → ℕ → Me S View → Type 0
+  ReadsTold s v n w = (w ≡ v)
       × (IsTold (named_blocks (state_of v.0)) s.word → slice_index (state_of v.0).words s.word ≡ n)
 
   -- the writer's store of a word
@@ -40,8 +41,8 @@ module _ {S : Type 0} where
   -- a copying pass loads
   abbrev pub Copies : Step S → Me S View → ℕ → Me S View → Type 0
   Copies s v n w = (w ≡ v)
-      × (slice_index (reader_of v.0).content (s.word - (reader_of v.0).first) ≡ n)
+      × (slice_index (copying_reader v.0).content (s.word - (copying_reader v.0).first) ≡ n)
 
   -- a copying pass releases its block
   abbrev pub Releases : Step S → Me S View → ℕ → Me S View → Type 0
-  Releases s v n w = w ≡ (Idle (reader_of v.0).known, v.1)
+  Releases s v n w = w ≡ (Idle (copying_reader v.0).known, v.1)

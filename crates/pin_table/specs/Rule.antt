@@ -18,7 +18,7 @@ use Rattle.pin_table.specs.declared.views.View.{View}
 use Rattle.pin_table.specs.declared.views.View.TheVariants.{Writer, Copying}
 use Rattle.pin_table.specs.Events.{events_of, fetched_last}
 use Rattle.pin_table.specs.Pins.{pins_on, AreApart, content_of, freed_in}
-use Rattle.pin_table.specs.Views.{is_in_hand, is_among, known_of, named_blocks, carries}
+use Rattle.pin_table.specs.Views.{is_in_hand, has_worker, known_of, named_blocks, carries}
 use Rattle.pin_table.specs.Views.{copied_blocks}
 use Rattle.pin_table.specs.Order.{Fits, EndsByItsPin, AllPlaced, Carried}
 
@@ -37,10 +37,10 @@ pub record PassesAreOne (views : List View) (d : WriterState) (place : ℕ → �
   pub placed : AllPlaced d.log place views
   pub once : (w k : ℕ) (v : View) → get_elem? views k ≡ some v → carries w v ≡ true
       → (place w ≡ k) × (w < d.log.made)
-      × (is_in_hand w d.log.hand ≡ false) × (is_among w d.log.closed ≡ false)
+      × (is_in_hand w d.log.hand ≡ false) × (has_worker w d.log.closed ≡ false)
   pub hand : (w : ℕ) → is_in_hand w d.log.hand ≡ true
-      → (w < d.log.made) × (is_among w d.log.closed ≡ false)
-  pub closed : (w : ℕ) → is_among w d.log.closed ≡ true → w < d.log.made
+      → (w < d.log.made) × (has_worker w d.log.closed ≡ false)
+  pub closed : (w : ℕ) → has_worker w d.log.closed ≡ true → w < d.log.made
   pub no_event : (w : ℕ) → d.log.made ≤ w → events_of w d.log.history ≡ []
   pub no_window : (w at : ℕ) → d.log.made ≤ w → get_elem? d.windows w ≡ some at → at ≡ 0
   pub few : d.log.made ≤ 64

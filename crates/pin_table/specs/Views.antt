@@ -43,11 +43,11 @@ known_of Spent = nobody
 abbrev pub no_reader : Reader
 no_reader = record { known = nobody; block = 0; first = 0; content = [] }
 
-abbrev pub reader_of : View → Reader
-reader_of (Writer d) = no_reader
-reader_of (Idle p) = no_reader
-reader_of (Copying c) = c
-reader_of Spent = no_reader
+abbrev pub copying_reader : View → Reader
+copying_reader (Writer d) = no_reader
+copying_reader (Idle p) = no_reader
+copying_reader (Copying c) = c
+copying_reader Spent = no_reader
 
 abbrev pub in_hand : Option Known → Known
 in_hand (Some p) = p
@@ -57,9 +57,9 @@ abbrev pub is_in_hand : ℕ → Option Known → Bool
 is_in_hand w (Some p) = p.worker == w
 is_in_hand w None = false
 
-abbrev pub is_among : ℕ → List Known → Bool
-is_among w [] = false
-is_among w (p ∷ ps) = (p.worker == w) || is_among w ps
+abbrev pub has_worker : ℕ → List Known → Bool
+has_worker w [] = false
+has_worker w (p ∷ ps) = (p.worker == w) || has_worker w ps
 
 -- the view is that of the pass of the worker w, idle or copying
 abbrev pub carries : ℕ → View → Bool

@@ -41,22 +41,22 @@ impl Model for Copying {
     ghost use Rattle.std.specs.Prelude.{◌≡◌, ◌+◌, ◌<◌, ◌≤◌, [], length};
     ghost use Rattle.seg_words.specs.declared.layout.TheConstants.{HEAD_WORDS};
     ghost use Rattle.pin_table.specs.Values.{CopyView};
-    ghost use Rattle.pin_table.specs.Views.{reader_of};
+    ghost use Rattle.pin_table.specs.Views.{copying_reader};
     ghost use Rattle.pin_table.specs.declared.views.View.TheVariants as views;
 
     ghost Value = { CopyView };
 
-    ghost view = { λ p. record { table = p.seat.table_id; copy = reader_of p.seat.me.0 } };
+    ghost view = { λ p. record { table = p.seat.table_id; copy = copying_reader p.seat.me.0 } };
 
     ghost invariant = { λ p.
-        (p.seat.me ≡ (views.Copying (reader_of p.seat.me.0), []))
-        × (p.worker ≡ (reader_of p.seat.me.0).known.worker)
-        × (p.left ≡ (reader_of p.seat.me.0).known.left)
-        × (p.block ≡ (reader_of p.seat.me.0).block)
-        × (p.first + length (reader_of p.seat.me.0).content ≤ p.seat.table_id.words)
+        (p.seat.me ≡ (views.Copying (copying_reader p.seat.me.0), []))
+        × (p.worker ≡ (copying_reader p.seat.me.0).known.worker)
+        × (p.left ≡ (copying_reader p.seat.me.0).known.left)
+        × (p.block ≡ (copying_reader p.seat.me.0).block)
+        × (p.first + length (copying_reader p.seat.me.0).content ≤ p.seat.table_id.words)
         × (p.block + HEAD_WORDS ≤ p.first)
-        × (p.len ≡ length (reader_of p.seat.me.0).content)
-        × (p.first ≡ (reader_of p.seat.me.0).first) };
+        × (p.len ≡ length (copying_reader p.seat.me.0).content)
+        × (p.first ≡ (copying_reader p.seat.me.0).first) };
 }
 
 impl Copying {

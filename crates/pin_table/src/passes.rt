@@ -5,7 +5,7 @@ ghost use Rattle.std.specs.Prelude.{length, slice_get, Some, None, IfOk, IfSome}
 ghost use Rattle.std.specs.Prelude.{IfNone, vec_capacity, vec_len};
 ghost use mathlib.Core.List.{IsPrefix};
 ghost use Rattle.pin_table.specs.Events.{events_of};
-ghost use Rattle.pin_table.specs.Views.{with_log, rested, is_among};
+ghost use Rattle.pin_table.specs.Views.{with_log, rested, has_worker};
 ghost use Rattle.pin_table.specs.Lists.{first_log, first_state, first_passes, known_list, AllOf};
 ghost use Rattle.pin_table.specs.Order.{StateInOrder};
 ghost use Rattle.pin_table.specs.Values.{PassView};
@@ -160,7 +160,7 @@ impl PinTable {
         requires ended { AllOf self ended.ended }
         requires hand { seat.state.log.hand ≡ None }
         requires every { (w : ℕ) → w < seat.state.log.made
-            → is_among w (known_list ended.ended) ≡ true }
+            → has_worker w (known_list ended.ended) ≡ true }
         ensures words { ⟦<VecWords as WordsIn>⟧.words result ≡ seat.state.words }
         ensures seen { (k : ℕ) (b : PassView) → slice_get ended.ended k ≡ Some b
             → IsPrefix b.known.seen seat.state.log.history }
@@ -168,7 +168,7 @@ impl PinTable {
             → events_of b.known.worker seat.state.log.history ≡ b.known.own }
         ensures made { (k : ℕ) (b : PassView) → slice_get ended.ended k ≡ Some b
             → events_of b.known.worker b.known.seen ≡ b.known.own }
-        ensures others { (w : ℕ) → is_among w (known_list ended.ended) ≡ false
+        ensures others { (w : ℕ) → has_worker w (known_list ended.ended) ≡ false
             → events_of w seat.state.log.history ≡ [] }
     {
         gather(&self, &mut seat, ended);
@@ -182,14 +182,14 @@ impl PinTable {
         requires ended { AllOf self ended.ended }
         requires hand { seat.state.log.hand ≡ None }
         requires every { (w : ℕ) → w < seat.state.log.made
-            → is_among w (known_list ended.ended) ≡ true }
+            → has_worker w (known_list ended.ended) ≡ true }
         ensures seen { (k : ℕ) (b : PassView) → slice_get ended.ended k ≡ Some b
             → IsPrefix b.known.seen seat.state.log.history }
         ensures own { (k : ℕ) (b : PassView) → slice_get ended.ended k ≡ Some b
             → events_of b.known.worker seat.state.log.history ≡ b.known.own }
         ensures made { (k : ℕ) (b : PassView) → slice_get ended.ended k ≡ Some b
             → events_of b.known.worker b.known.seen ≡ b.known.own }
-        ensures others { (w : ℕ) → is_among w (known_list ended.ended) ≡ false
+        ensures others { (w : ℕ) → has_worker w (known_list ended.ended) ≡ false
             → events_of w seat.state.log.history ≡ [] }
     {
         gather(&self, &mut seat, ended);

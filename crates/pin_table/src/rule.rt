@@ -30,9 +30,9 @@ impl Play<u64, View> for Look {
 pub struct Read;
 
 impl Play<u64, View> for Read {
-    ghost use Rattle.pin_table.specs.Plays.{Reads};
+    ghost use Rattle.pin_table.specs.Plays.{ReadsTold};
 
-    ghost then = { Reads };
+    ghost then = { ReadsTold };
 }
 
 // The writer stores a word.

@@ -8,7 +8,7 @@ ghost use Rattle.seg_words.specs.Windows.{has, is_named, closed_on, held_by, hol
 ghost use Rattle.seg_words.specs.Blocks.{IsTold, MayStore, MayProbe, image_place};
 ghost use Rattle.pin_table.specs.Events.{is_fetch};
 ghost use Rattle.pin_table.specs.Pins.{IsBlock, MeetsNone, refused_in};
-ghost use Rattle.pin_table.specs.Views.{is_among, state_of, in_hand, with_words, with_log};
+ghost use Rattle.pin_table.specs.Views.{has_worker, state_of, in_hand, with_words, with_log};
 ghost use Rattle.pin_table.specs.Views.{with_hand, with_event, known_after, newcomer};
 ghost use Rattle.pin_table.specs.Views.{with_newcomer, seen_all, rested, taken_in, shut, probed};
 ghost use Rattle.pin_table.specs.Views.{pinning_at, copied, reader_after, first_view};
@@ -366,7 +366,7 @@ impl PinTable {
     pub(crate) fn dissolve(self, seat: WriterSeat) -> Vec<u64>
         requires table { seat.table ≡ self }
         requires every { (w : ℕ) → w < seat.state.log.made
-            → is_among w seat.state.log.closed ≡ true }
+            → has_worker w seat.state.log.closed ≡ true }
         ensures words { result.items ≡ seat.state.words }
         ensures short { length result.items < 2 ^ 32 }
     {

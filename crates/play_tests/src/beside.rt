@@ -3,7 +3,7 @@
 ghost use Rattle.std.specs.Prelude.{◌≡◌, ◌≤◌, [], ◌∷◌, length, IfSome};
 ghost use Rattle.std.specs.Thread.{IsSync};
 ghost use Rattle.pin_table.specs.Lists.{first_passes, first_pass, known_list};
-ghost use Rattle.pin_table.specs.Views.{is_among};
+ghost use Rattle.pin_table.specs.Views.{has_worker};
 ghost use Rattle.worker_play.specs.Goes.{KnowsOwnEvents};
 
 use crate::gates::Noting;

@@ -6,7 +6,7 @@ use Rattle.std.specs.Prelude.{pos, codes}
 use Rattle.php_graph.specs.declared.kind.Kind.TheVariants as kinds
 use Rattle.notation.specs.Notation.{child_text}
 use Rattle.preload_set.specs.Bundle.{Record, record_text}
-use Rattle.preload_set.specs.Loader.{words_of, last_value}
+use Rattle.preload_set.specs.Loader.{record_words, last_value}
 
 two : List Record
 two = (codes "a", kinds.Int (pos 1) ∷ []) ∷ (codes "a", kinds.Int (pos 2) ∷ []) ∷ []
@@ -23,6 +23,6 @@ is_absent : last_value (codes "b") two ≡ None
 unfolding two
 is_absent = refl
 
-are_words : words_of two ≡ 32
+are_words : record_words two ≡ 32
 unfolding two
 are_words = refl

@@ -21,7 +21,7 @@ use Rattle.apcu_model.specs.Sequential.{is_stored}
 use Rattle.script_read.specs.declared.script.Step.{Step}
 use Rattle.script_read.specs.Play.{Wish, Play, wanted, replies_of, wish_of, script_of, event_of, after_wish, marked, played_from, played, nothing_played}
 use Rattle.preload_set.specs.Bundle.{Record}
-use Rattle.preload_set.specs.Loader.{loader_of, words_of, IsLoaded, IsPlayedFirst}
+use Rattle.preload_set.specs.Loader.{loader_of, record_words, IsLoaded, IsPlayedFirst}
 use Rattle.preload_set.proofs.StoredRecords.{IsOne, Filled, IsStored, filled_first, record_stored}
 
 -- ---- what the loader wants
@@ -84,7 +84,7 @@ wish_is conf scripts worker done records p wish script going wants =
     ap (λ (o : Option (List Step)). option_and_then (λ own. wanted conf own (replies_of p worker)) o) script
     ∙ (ap (wanted conf (loader_of records)) (own_replies conf worker done p going) ∙ wants)
 
-store_goes : (conf : Conf) (mark : Mark) (done : List Record) (r : Record) (p : Play) → IsOne conf → conf.slots + words_of done + block_size (length r.0) r.1 ≤ conf.words → Going conf mark.worker done p → Going conf mark.worker (done ++ r ∷ []) (after_wish p mark (wish_to_store r))
+store_goes : (conf : Conf) (mark : Mark) (done : List Record) (r : Record) (p : Play) → IsOne conf → conf.slots + record_words done + block_size (length r.0) r.1 ≤ conf.words → Going conf mark.worker done p → Going conf mark.worker (done ++ r ∷ []) (after_wish p mark (wish_to_store r))
 store_goes conf mark done r p one room going = record {
   filled = subst (λ (held : List ℕ). Filled conf (done ++ r ∷ []) (inserted held r.0 r.1 0 false 0 p.stage.cache).cache) (sym none) stored.filled;
   windows = ap (λ (ws : List (ℕ × ℕ)). filter (λ w. not (w.0 == mark.worker)) ws) going.windows;
@@ -117,7 +117,7 @@ then_some f None y e = absurd cc
 abbrev AllBy : ℕ → List Mark → Type 0
 AllBy worker marks = AllByRecursion (λ (mark : Mark). mark.worker ≡ worker) marks
 
-goes_on : (conf : Conf) (scripts : List (List Step)) (worker : ℕ) (done rest : List Record) (marks : List Mark) (p q : Play) → IsOne conf → conf.slots + words_of (done ++ rest) ≤ conf.words → script_of scripts worker ≡ Some (loader_of (done ++ rest))
+goes_on : (conf : Conf) (scripts : List (List Step)) (worker : ℕ) (done rest : List Record) (marks : List Mark) (p q : Play) → IsOne conf → conf.slots + record_words (done ++ rest) ≤ conf.words → script_of scripts worker ≡ Some (loader_of (done ++ rest))
     → AllBy worker marks → length marks ≡ length rest + 1 → Going conf worker done p → played_from conf scripts p marks ≡ Some q → IsLoaded worker (done ++ rest) q
 goes_on conf scripts worker done rest [] p q one room script own count going is = absurd (omega (arith, count))
 goes_on conf scripts worker done [] (mark ∷ []) p q one room script own count going is =
@@ -139,12 +139,12 @@ goes_on conf scripts worker done (r ∷ rest) (mark ∷ marks) p q one room scri
     let wish = wish_is conf scripts worker done (done ++ r ∷ rest) p (wish_to_store r) script going (wants_next conf done r rest) in
     let after = some_wish conf scripts p a.0 mark (wish_to_store r) (ap (wish_of conf scripts p) by ∙ wish) a.1 in
     let size = λ (x : Record). block_size (length x.0) x.1 in
-    let fits : conf.slots + words_of done + block_size (length r.0) r.1 ≤ conf.words = omega (arith, room, sum_by-append size done (r ∷ rest), sum_by-cons size r rest) in
+    let fits : conf.slots + record_words done + block_size (length r.0) r.1 ≤ conf.words = omega (arith, room, sum_by-append size done (r ∷ rest), sum_by-cons size r rest) in
     let next : Going conf worker (done ++ r ∷ []) a.0 =
     subst (λ (x : Play). Going conf worker (done ++ r ∷ []) x) after
     (subst (λ (w : ℕ). Going conf w (done ++ r ∷ []) (after_wish p mark (wish_to_store r))) by (store_goes conf mark done r p one fits (subst (λ (w : ℕ). Going conf w done p) (sym by) going))) in
     subst (λ (l : List Record). IsLoaded worker l q) whole
-    (goes_on conf scripts worker (done ++ r ∷ []) rest marks a.0 q one (subst (λ (l : List Record). conf.slots + words_of l ≤ conf.words) (sym whole) room) (script ∙ ap (λ (l : List Record). Some (loader_of l)) (sym whole)) own.1 (omega (arith, count)) next a.2)
+    (goes_on conf scripts worker (done ++ r ∷ []) rest marks a.0 q one (subst (λ (l : List Record). conf.slots + record_words l ≤ conf.words) (sym whole) room) (script ∙ ap (λ (l : List Record). Some (loader_of l)) (sym whole)) own.1 (omega (arith, count)) next a.2)
 
 begins : (conf : Conf) (scripts : List (List Step)) (worker : ℕ) (script : List Step) → script_of scripts worker ≡ Some script → Going conf worker [] (nothing_played conf scripts)
 begins conf scripts worker script there = record {
@@ -153,7 +153,7 @@ begins conf scripts worker script there = record {
   replies = slice_get-map (λ (s : List Step). []) scripts worker ∙ ap (option_map (λ (s : List Step). [])) there;
 }
 
-bundle_loads : (conf : Conf) (scripts : List (List Step)) (worker : ℕ) (records : List Record) (marks : List Mark) (q : Play) → IsGood conf → conf.segments ≡ 1 → words_of records ≤ conf.words - conf.slots → script_of scripts worker ≡ Some (loader_of records)
+bundle_loads : (conf : Conf) (scripts : List (List Step)) (worker : ℕ) (records : List Record) (marks : List Mark) (q : Play) → IsGood conf → conf.segments ≡ 1 → record_words records ≤ conf.words - conf.slots → script_of scripts worker ≡ Some (loader_of records)
     → AllBy worker marks → length marks ≡ length records + 1 → played conf scripts marks ≡ Some q → IsLoaded worker records q
 bundle_loads conf scripts worker records marks q good one room script own count is =
     goes_on conf scripts worker [] records marks (nothing_played conf scripts) q (record { even = good.slots_even; one = one }) (omega (arith, room, room_of (usable_of good))) script own count (begins conf scripts worker (loader_of records) script) is
@@ -166,7 +166,7 @@ played_front conf scripts p (mark ∷ own) others q is =
     let b = played_front conf scripts a.0 own others q a.2 in
     (b.0, ap (λ (o : Option Play). option_and_then (λ (x : Play). played_from conf scripts x own) o) a.1 ∙ b.1)
 
-pub bundle_comes_first : (conf : Conf) (scripts : List (List Step)) (worker : ℕ) (records : List Record) (own others : List Mark) (q : Play) → IsGood conf → conf.segments ≡ 1 → words_of records ≤ conf.words - conf.slots → script_of scripts worker ≡ Some (loader_of records)
+pub bundle_comes_first : (conf : Conf) (scripts : List (List Step)) (worker : ℕ) (records : List Record) (own others : List Mark) (q : Play) → IsGood conf → conf.segments ≡ 1 → record_words records ≤ conf.words - conf.slots → script_of scripts worker ≡ Some (loader_of records)
     → AllBy worker own → length own ≡ length records + 1 → played conf scripts (own ++ others) ≡ Some q → IsPlayedFirst conf scripts worker records own
 bundle_comes_first conf scripts worker records own others q good one room script by count is =
     let m = played_front conf scripts (nothing_played conf scripts) own others q is in

@@ -12,7 +12,7 @@ use Rattle.script_read.specs.declared.fault.ScriptFault.TheVariants as faults
 use Rattle.script_read.specs.Ties.{AreSomeBytes}
 use Rattle.preload_set.specs.Bundle.{Record, AreRecords}
 use Rattle.preload_set.specs.Reading.{record_at, records_at, bundle_at}
-use Rattle.preload_set.specs.Gives.{Reads, ReadsRecords, ReadsBundle}
+use Rattle.preload_set.specs.Gives.{ReadsFromTo, ReadsRecords, ReadsBundle}
 use Rattle.preload_set.specs.Ties.{BundlesTake, BundlesAgain}
 use Rattle.script_read.proofs.ResultBinds.{ok_is}
 
@@ -89,7 +89,7 @@ pub fewer_left : (from to : Standing) → to.bytes ≡ from.bytes → from.place
 fewer_left from to same on some =
     omega (arith, on, some, length-drop from.place from.bytes, length-drop to.place to.bytes, ap (λ (l : List ℕ). length l) same)
 
-pub records_fail : (e : ReadFault) (bytes : List ℕ) (from to : Standing) (front : List Record) → Reads (record_at (left from)) from to (Err e) → from.bytes ≡ bytes → 0 < length (left from) → IsSoFar front (left from) (bundle_at bytes) → ReadsRecords bytes (Err e)
+pub records_fail : (e : ReadFault) (bytes : List ℕ) (from to : Standing) (front : List Record) → ReadsFromTo (record_at (left from)) from to (Err e) → from.bytes ≡ bytes → 0 < length (left from) → IsSoFar front (left from) (bundle_at bytes) → ReadsRecords bytes (Err e)
 records_fail reads.Memory bytes from to front read same some so_far = tt
 records_fail (reads.Bad place reason) bytes from to front read same some so_far =
     (read.0, fails front (left from) read.0 (bundle_at bytes) some read.1 so_far, read.2, read.3 ∙ ap (λ (l : List ℕ). length l) same)

@@ -13,7 +13,7 @@ use Rattle.notation.specs.Place.{Standing, left}
 use Rattle.notation.specs.Reading.{reading_of}
 use Rattle.script_read.specs.Arguments.{key}
 use Rattle.script_read.specs.Reading.{chosen, choice_at, separator_at}
-use Rattle.preload_set.specs.Reading.{due_at}
+use Rattle.preload_set.specs.Reading.{due_byte_at}
 use Rattle.preload_set.specs.Gives.{IsFaultAt}
 
 -- a fault where the cursor stands
@@ -59,14 +59,14 @@ key_some k = omega (arith, ap (λ (l : List ℕ). length l) (string_is k), strin
 
 -- ---- the byte that is due
 
-due_first : (due byte : ℕ) (l : List ℕ) → slice_get l 0 ≡ Some byte → (byte == due) ≡ true → due_at due l ≡ Ok (tt, drop 1 l)
+due_first : (due byte : ℕ) (l : List ℕ) → slice_get l 0 ≡ Some byte → (byte == due) ≡ true → due_byte_at due l ≡ Ok (tt, drop 1 l)
 unfolding separator_at
 due_first due byte [] there same = absurd (cc there)
 due_first due byte (b ∷ l) there same =
     let is : b ≡ byte = cc there in
     ap (λ (t : Bool). (if t then Ok l else fail reasons.Separator (b ∷ l)) >>= λ rest. Ok (tt, rest)) (ap (λ (x : ℕ). x == due) is ∙ same)
 
-pub due_read : (due byte : ℕ) (from to : Standing) → slice_get (left from) 0 ≡ Some byte → (byte == due) ≡ true → to ≡ record from { place = from.place + 1 } → due_at due (left from) ≡ Ok (tt, left to)
+pub due_read : (due byte : ℕ) (from to : Standing) → slice_get (left from) 0 ≡ Some byte → (byte == due) ≡ true → to ≡ record from { place = from.place + 1 } → due_byte_at due (left from) ≡ Ok (tt, left to)
 due_read due byte from to there same moved =
     due_first due byte (left from) there same
     ∙ ap (λ (l : List ℕ). Ok (tt, l)) (drop-drop 1 from.place from.bytes ∙ sym (ap left moved))
@@ -74,25 +74,25 @@ due_read due byte from to there same moved =
 abbrev failed : {Y : Type 0} → Reason → ℕ → Result Y Fault
 failed reason n = Err (record { reason = reason; left = n })
 
-due_none : (due : ℕ) (l : List ℕ) → slice_get l 0 ≡ None → due_at due l ≡ failed reasons.End (length l)
+due_none : (due : ℕ) (l : List ℕ) → slice_get l 0 ≡ None → due_byte_at due l ≡ failed reasons.End (length l)
 unfolding separator_at
 due_none due [] none = refl
 due_none due (b ∷ l) none = absurd (cc none)
 
-due_other : (due byte : ℕ) (l : List ℕ) → slice_get l 0 ≡ Some byte → (byte == due) ≡ false → due_at due l ≡ failed reasons.Separator (length l)
+due_other : (due byte : ℕ) (l : List ℕ) → slice_get l 0 ≡ Some byte → (byte == due) ≡ false → due_byte_at due l ≡ failed reasons.Separator (length l)
 unfolding separator_at
 due_other due byte [] there other = absurd (cc there)
 due_other due byte (b ∷ l) there other =
     let is : b ≡ byte = cc there in
     ap (λ (t : Bool). (if t then Ok l else fail reasons.Separator (b ∷ l)) >>= λ rest. Ok (tt, rest)) (ap (λ (x : ℕ). x == due) is ∙ other)
 
-pub due_ends : (due : ℕ) (from : Standing) (place : ℕ) (reason : Reason) → slice_get (left from) 0 ≡ None → reason ≡ reasons.End → place ≡ from.place → from.place ≤ length from.bytes → IsFaultAt (due_at due (left from)) (length from.bytes) place reason
+pub due_ends : (due : ℕ) (from : Standing) (place : ℕ) (reason : Reason) → slice_get (left from) 0 ≡ None → reason ≡ reasons.End → place ≡ from.place → from.place ≤ length from.bytes → IsFaultAt (due_byte_at due (left from)) (length from.bytes) place reason
 due_ends due from place reason none is stands within =
-    subst (IsFaultAt (due_at due (left from)) (length from.bytes) place) (sym is)
-    (here (due_at due (left from)) from place (record { reason = reasons.End; left = length (left from) }) (due_none due (left from) none) refl stands within)
+    subst (IsFaultAt (due_byte_at due (left from)) (length from.bytes) place) (sym is)
+    (here (due_byte_at due (left from)) from place (record { reason = reasons.End; left = length (left from) }) (due_none due (left from) none) refl stands within)
 
 pub due_refused : (due byte : ℕ) (from : Standing) (place : ℕ) (reason : Reason) → slice_get (left from) 0 ≡ Some byte → (byte == due) ≡ false → reason ≡ reasons.Separator → place ≡ from.place → from.place ≤ length from.bytes
-    → IsFaultAt (due_at due (left from)) (length from.bytes) place reason
+    → IsFaultAt (due_byte_at due (left from)) (length from.bytes) place reason
 due_refused due byte from place reason there other is stands within =
-    subst (IsFaultAt (due_at due (left from)) (length from.bytes) place) (sym is)
-    (here (due_at due (left from)) from place (record { reason = reasons.Separator; left = length (left from) }) (due_other due byte (left from) there other) refl stands within)
+    subst (IsFaultAt (due_byte_at due (left from)) (length from.bytes) place) (sym is)
+    (here (due_byte_at due (left from)) from place (record { reason = reasons.Separator; left = length (left from) }) (due_other due byte (left from) there other) refl stands within)

@@ -13,7 +13,7 @@ use Rattle.seg_words.specs.declared.layout.TheConstants.{HEAD_WORDS}
 use Rattle.seg_words.specs.Layout.{words_in}
 use Rattle.php_graph.specs.Size.{block_size, image_length}
 use Rattle.preload_set.specs.Bundle.{Record}
-use Rattle.preload_set.specs.Loader.{words_of}
+use Rattle.preload_set.specs.Loader.{record_words}
 
 -- a number that passes bounds the first one that does
 find_low : (p : ℕ → Bool) (from n a : ℕ) → p a ≡ true → from ≤ a → a < from + n → (x : ℕ) × (find p (range_with_len from n) ≡ Some x) × (x ≤ a)
@@ -73,6 +73,6 @@ even_sum a b h k = omega (arith, h, k)
 size_even : (r : Record) → size_of r % 2 ≡ 0
 size_even r = even_up (HEAD_WORDS + words_in (length r.0) + image_length r.1)
 
-pub words_even : (records : List Record) → words_of records % 2 ≡ 0
+pub words_even : (records : List Record) → record_words records % 2 ≡ 0
 words_even [] = refl
-words_even (r ∷ records) = ap (λ n. n % 2) (sum_by-cons size_of r records) ∙ even_sum (size_of r) (words_of records) (size_even r) (words_even records)
+words_even (r ∷ records) = ap (λ n. n % 2) (sum_by-cons size_of r records) ∙ even_sum (size_of r) (record_words records) (size_even r) (words_even records)

@@ -20,7 +20,7 @@ use Rattle.apcu_model.specs.Facts.{dated}
 use Rattle.apcu_model.proofs.FirstMoment.{piece_one, most_one, placed_at_once, Placed, new_row, placed_parts, replaced_rows}
 use Rattle.script_read.specs.Arguments.{or_else}
 use Rattle.preload_set.specs.Bundle.{Record}
-use Rattle.preload_set.specs.Loader.{words_of, last_value, values_at}
+use Rattle.preload_set.specs.Loader.{record_words, last_value, values_at}
 use Rattle.preload_set.proofs.Room.{gap_low, words_even}
 use Rattle.preload_set.proofs.KeyRows.{with_there, filter_other, filter_own}
 
@@ -32,7 +32,7 @@ pub record IsOne (conf : Conf) : Type 0 where
 pub record Filled (conf : Conf) (before : List Record) (c : Cache) : Type 0 where
   pub shape : c.conf ≡ conf
   pub removed : c.removed ≡ []
-  pub low : (r : Row) → Contains c.rows r → r.place + r.size ≤ conf.slots + words_of before
+  pub low : (r : Row) → Contains c.rows r → r.place + r.size ≤ conf.slots + record_words before
   pub expunges : c.expunges ≡ 0
   pub values : (key : List ℕ) → values_at key c ≡ option_to_list (last_value key before)
 
@@ -61,7 +61,7 @@ last_joined key (x ∷ records) r =
     let early : Option (List Kind) = if bytes_eq x.0 key then Some x.1 else None in
     ap (λ (o : Option (List Kind)). or_else o early) (last_joined key records r) ∙ or_later (bytes_eq r.0 key) r.1 (last_value key records) early
 
-words_joined : (records : List Record) (r : Record) → words_of (records ++ r ∷ []) ≡ words_of records + block_size (length r.0) r.1
+words_joined : (records : List Record) (r : Record) → record_words (records ++ r ∷ []) ≡ record_words records + block_size (length r.0) r.1
 words_joined records r =
     let size = λ (x : Record). block_size (length x.0) x.1 in
     omega (arith, sum_by-append size records (r ∷ []), sum_by-cons size r [])
@@ -71,15 +71,15 @@ words_joined records r =
 pub record HasGap (conf : Conf) (before : List Record) (n : ℕ) (c : Cache) : Type 0 where
   pub place : ℕ
   pub is : gap_of c n ≡ Some place
-  pub low : place ≤ conf.slots + words_of before
+  pub low : place ≤ conf.slots + record_words before
 
-has_low_gap : (conf : Conf) (before : List Record) (n : ℕ) (c : Cache) → IsOne conf → conf.slots + words_of before + n ≤ conf.words → Filled conf before c → HasGap conf before n c
+has_low_gap : (conf : Conf) (before : List Record) (n : ℕ) (c : Cache) → IsOne conf → conf.slots + record_words before + n ≤ conf.words → Filled conf before c → HasGap conf before n c
 has_low_gap conf before n c one room filled =
-    let a = conf.slots + words_of before in
+    let a = conf.slots + record_words before in
     let extents = map extent_of c.rows in
     let behind : (e : Extent) → Contains extents e → e.place + e.size ≤ a = λ e h.
     let x = map_there extent_of c.rows e h in omega (arith, filled.low x.0 x.1, ap (λ (q : Extent). q.place) x.2, ap (λ (q : Extent). q.size) x.2) in
-    let g = gap_low conf.slots conf.words a n extents (even conf.slots (words_of before) one.even (words_even before)) (omega arith) (omega (arith, room)) behind in
+    let g = gap_low conf.slots conf.words a n extents (even conf.slots (record_words before) one.even (words_even before)) (omega arith) (omega (arith, room)) behind in
     let all : map extent_of (c.rows ++ c.removed) ≡ extents = ap (λ (l : List Row). map extent_of (c.rows ++ l)) filled.removed ∙ ap (map extent_of) (append-nil c.rows) in
     record {
       place = g.0;
@@ -110,7 +110,7 @@ at_most_one : {A : Type 0} (o : Option A) → length (option_to_list o) ≤ 1
 at_most_one (Some x) = omega arith
 at_most_one None = omega arith
 
-filled_placed : (conf : Conf) (before : List Record) (r : Record) (c : Cache) (place : ℕ) → place ≤ conf.slots + words_of before → Filled conf before c → Filled conf (before ++ r ∷ []) (after_placing r c place)
+filled_placed : (conf : Conf) (before : List Record) (r : Record) (c : Cache) (place : ℕ) → place ≤ conf.slots + record_words before → Filled conf before c → Filled conf (before ++ r ∷ []) (after_placing r c place)
 filled_placed conf before r c place low filled = record {
   shape = filled.shape;
   removed = parts.removed ∙ (none_held ∙ filled.removed);
@@ -134,7 +134,7 @@ filled_placed conf before r c place low filled = record {
     none_held : c.removed ++ replaced_rows [] r.0 c.rows ≡ c.removed
     none_held = ap (λ (l : List Row). c.removed ++ dated 0 l) (filter_none (is_held []) (filter (has_key r.0) c.rows) (λ row h. refl)) ∙ append-nil c.removed
 
-    words : words_of (before ++ r ∷ []) ≡ words_of before + block_size (length r.0) r.1
+    words : record_words (before ++ r ∷ []) ≡ record_words before + block_size (length r.0) r.1
     words = words_joined before r
 
     single : length (filter (has_key r.0) c.rows) ≤ 1
@@ -155,7 +155,7 @@ pub record IsStored (conf : Conf) (before : List Record) (r : Record) (made : In
   pub answer : made.answer ≡ answers.Stored
   pub filled : Filled conf (before ++ r ∷ []) made.cache
 
-pub record_stored : (conf : Conf) (before : List Record) (r : Record) (c : Cache) → IsOne conf → conf.slots + words_of before + block_size (length r.0) r.1 ≤ conf.words → Filled conf before c → IsStored conf before r (inserted [] r.0 r.1 0 false 0 c)
+pub record_stored : (conf : Conf) (before : List Record) (r : Record) (c : Cache) → IsOne conf → conf.slots + record_words before + block_size (length r.0) r.1 ≤ conf.words → Filled conf before c → IsStored conf before r (inserted [] r.0 r.1 0 false 0 c)
 record_stored conf before r c one room filled =
     let n = block_size (length r.0) r.1 in
     let first = filled_swept conf before c filled in

@@ -19,12 +19,12 @@ IsFaultAt read total place reason =
 
 -- What was read, with the bytes that are left, is what reading gives; a fault is the first one.
 -- Memory may be wanting always.
-abbrev pub Reads : {X : Type 0}
+abbrev pub ReadsFromTo : {X : Type 0}
     → Result (X × List ℕ) Fault → Standing → Standing → Result X ReadFault → Type 0
-Reads read from to (Ok x) = read ≡ Ok (x, left to)
-Reads read from to (Err (reads.Bad place reason)) =
+ReadsFromTo read from to (Ok x) = read ≡ Ok (x, left to)
+ReadsFromTo read from to (Err (reads.Bad place reason)) =
     IsFaultAt read (length from.bytes) place reason
-Reads read from to (Err reads.Memory) = Unit {0}
+ReadsFromTo read from to (Err reads.Memory) = Unit {0}
 
 -- all of the bytes
 abbrev pub ReadsRecords : List ℕ → Result (List Record) ReadFault → Type 0

@@ -21,8 +21,8 @@ abbrev pub loader_of : List Record → List Step
 loader_of records = map (λ r. step_now (StoreOne r.0 r.1 0 false)) records
 
 -- the words of the blocks of all records, repeated keys too
-abbrev pub words_of : List Record → ℕ
-words_of records = sum_by (λ r. block_size (length r.0) r.1) records
+abbrev pub record_words : List Record → ℕ
+record_words records = sum_by (λ r. block_size (length r.0) r.1) records
 
 -- the value of a key's last record, if it has one
 abbrev pub last_value : List ℕ → List Record → Option (List Kind)

@@ -8,8 +8,8 @@ use Rattle.script_read.specs.Reading.{choice_at, separator_at}
 use Rattle.preload_set.specs.Bundle.{Record}
 
 -- the byte that is due
-abbrev pub due_at : ℕ → List ℕ → Result (Unit {0} × List ℕ) Fault
-due_at due bytes = separator_at due bytes >>= λ rest. Ok (tt, rest)
+abbrev pub due_byte_at : ℕ → List ℕ → Result (Unit {0} × List ℕ) Fault
+due_byte_at due bytes = separator_at due bytes >>= λ rest. Ok (tt, rest)
 
 -- A key, a space, a value and a line feed, with the bytes after them. A key that is no string is at
 -- fault once it was read.

@@ -15,7 +15,7 @@ ghost use Rattle.script_read.specs.Play.{Play, played, script_of};
 ghost use Rattle.script_read.specs.Ranges.{AreRanged, HaveByteKeys};
 ghost use Rattle.preload_set.specs.Bundle.{AreRecords, Record};
 ghost use Rattle.preload_set.specs.Ties.{BundlesTake, BundlesAgain, BundlesAreOne};
-ghost use Rattle.preload_set.specs.Loader.{loader_of, words_of, IsPlayedFirst};
+ghost use Rattle.preload_set.specs.Loader.{loader_of, record_words, IsPlayedFirst};
 
 use notation::readings_are_spellings;
 
@@ -51,7 +51,7 @@ pub fn loaders_only_store()
 pub fn bundles_load()
     ensures { (conf : Conf) (scripts : List (List Step)) (worker : ℕ) (records : List Record)
         (own others : List Mark) (p : Play)
-        → IsGood conf → conf.segments ≡ 1 → words_of records ≤ conf.words - conf.slots
+        → IsGood conf → conf.segments ≡ 1 → record_words records ≤ conf.words - conf.slots
         → script_of scripts worker ≡ Some (loader_of records)
         → AllByRecursion (λ mark. mark.worker ≡ worker) own
         → length own ≡ length records + 1

@@ -4,8 +4,8 @@ ghost use Rattle.std.specs.Prelude.{◌≡◌, ◌<◌, OnOk};
 ghost use Rattle.notation.specs.Place.{left};
 ghost use Rattle.script_read.specs.Arguments.{key};
 ghost use Rattle.script_read.specs.Reading.{choice_at};
-ghost use Rattle.preload_set.specs.Reading.{due_at, record_at};
-ghost use Rattle.preload_set.specs.Gives.{Reads};
+ghost use Rattle.preload_set.specs.Reading.{due_byte_at, record_at};
+ghost use Rattle.preload_set.specs.Gives.{ReadsFromTo};
 
 use notation::{Cursor, ReadFault, Reason, read_value};
 use php_graph::{Bytes, Graph};
@@ -13,7 +13,7 @@ use std::alloc::Global;
 
 // A string value.
 fn key(alloc: Global, from: &mut Cursor) -> Result<Bytes, ReadFault>
-    ensures read { Reads (choice_at key (left from.old)) from.old from.new result }
+    ensures read { ReadsFromTo (choice_at key (left from.old)) from.old from.new result }
     ensures bytes { from.new.bytes ≡ from.old.bytes }
     ensures on { OnOk result (from.old.place < from.new.place) }
 {
@@ -29,7 +29,7 @@ fn key(alloc: Global, from: &mut Cursor) -> Result<Bytes, ReadFault>
 
 // The byte that is due.
 fn separator(from: &mut Cursor, due: u8) -> Result<(), ReadFault>
-    ensures read { Reads (due_at due (left from.old)) from.old from.new result }
+    ensures read { ReadsFromTo (due_byte_at due (left from.old)) from.old from.new result }
     ensures bytes { from.new.bytes ≡ from.old.bytes }
     ensures on { OnOk result (from.old.place < from.new.place) }
 {
@@ -49,7 +49,7 @@ fn separator(from: &mut Cursor, due: u8) -> Result<(), ReadFault>
 
 // A key and its value, to the end of their line.
 pub(crate) fn record(alloc: Global, from: &mut Cursor) -> Result<(Bytes, Graph), ReadFault>
-    ensures read { Reads (record_at (left from.old)) from.old from.new result }
+    ensures read { ReadsFromTo (record_at (left from.old)) from.old from.new result }
     ensures bytes { from.new.bytes ≡ from.old.bytes }
     ensures on { OnOk result (from.old.place < from.new.place) }
 {

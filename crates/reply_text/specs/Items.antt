@@ -25,14 +25,14 @@ abbrev pub numbers_of : List NamedValue → ℕ
 numbers_of values = sum_by (λ (v : NamedValue). length v.1) values
 
 -- each value under the name of the field in its place
-abbrev pub named : List (List ℕ × ℕ) → List (List Kind) → List NamedValue
-named (field ∷ fields) (value ∷ values) = (field.0, value) ∷ named fields values
-named _ _ = []
+abbrev pub named_values : List (List ℕ × ℕ) → List (List Kind) → List NamedValue
+named_values (field ∷ fields) (value ∷ values) = (field.0, value) ∷ named_values fields values
+named_values _ _ = []
 
 -- what an item can tell, in the order of the bits from 0 on; a value that was not asked for is null
 abbrev pub item_values : ItemRow → List NamedValue
 item_values row =
-    named field_bits
+    named_values field_bits
     (info_string row.key 1
     ∷ unwrap_or row.value (Null ∷ [])
     ∷ info_number row.hits 1

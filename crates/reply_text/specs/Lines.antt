@@ -46,16 +46,16 @@ abbrev pub before : List Reply → List Reply → List Reply
 before others replies = take (length replies - length others) replies
 
 -- the call's line, and the lines of those after it; nothing of a call that is not done
-abbrev pub lines_from : Call → List Reply → (List Reply → List ℕ) → Next → List ℕ
-lines_from call replies later (Asks request) = []
-lines_from call replies later (Leaves others) =
+abbrev pub call_lines : Call → List Reply → (List Reply → List ℕ) → Next → List ℕ
+call_lines call replies later (Asks request) = []
+call_lines call replies later (Leaves others) =
     call_text call (before others replies) ++ ends_line ++ later others
 
 -- a line for each call of a script, which has its own replies alone
 abbrev pub script_lines : Conf → List Step → List Reply → List ℕ
 script_lines conf [] replies = []
 script_lines conf (step ∷ steps) replies =
-    lines_from step.call replies (script_lines conf steps) (next_of conf step.call replies)
+    call_lines step.call replies (script_lines conf steps) (next_of conf step.call replies)
 
 -- for each worker the lines of its calls
 abbrev pub texts_of : Conf → List (List Step) → List (List Reply) → List (List ℕ)

@@ -13,16 +13,16 @@ use Rattle.reply_text.specs.Replies.{flag_text, done_text, is_done, value_in, al
 use Rattle.reply_text.specs.Replies.{value_members}
 
 -- the value that was found, or else this one
-abbrev pub value_or : List Kind → Reply → List Kind
-value_or default reply = unwrap_or (value_in reply) default
+abbrev pub value_or_default : List Kind → Reply → List Kind
+value_or_default default reply = unwrap_or (value_in reply) default
 
 abbrev pub got_text : List Kind → List Reply → List ℕ
 got_text default [] = []
-got_text default (reply ∷ replies) = text_of (value_or default reply)
+got_text default (reply ∷ replies) = text_of (value_or_default default reply)
 
 -- what is noted for a key
 abbrev pub got_in : List Kind → Reply → Option (List Kind)
-got_in default reply = Some (value_or default reply)
+got_in default reply = Some (value_or_default default reply)
 
 -- each key with its value or the default: a key that comes again keeps its place, with the later
 -- answer

@@ -3,7 +3,8 @@
 ghost use Rattle.std.specs.Prelude.{◌≡◌, ◌<◌, ◌^◌, ◌++◌, [], length, IfOk, OnOk};
 ghost use Rattle.std.specs.List.{list_all};
 ghost use Rattle.reply_text.specs.Notes.{lent_notes};
-ghost use Rattle.reply_text.specs.PoolReplies.{value_or, got_in, got_text, got_all_text, pool_text};
+ghost use Rattle.reply_text.specs.PoolReplies.{value_or_default, got_in, got_text, got_all_text};
+ghost use Rattle.reply_text.specs.PoolReplies.{pool_text};
 ghost use Rattle.reply_text.specs.Replies.{all_noted, is_done};
 
 use crate::notes::Notes;
@@ -54,8 +55,8 @@ fn are_done(replies: &[Reply]) -> bool
 }
 
 // The value that was found, or the default.
-fn value_or<'a>(reply: &'a Reply, default: &'a Graph) -> &'a Graph
-    ensures { result.now ≡ value_or default.now reply.now }
+fn value_or_default<'a>(reply: &'a Reply, default: &'a Graph) -> &'a Graph
+    ensures { result.now ≡ value_or_default default.now reply.now }
 {
     match value_of(reply) {
         Some(value) => value,
@@ -67,7 +68,7 @@ fn write_got(out: &mut ByteOut, default: &Graph, replies: &[Reply]) -> Result<()
     ensures { OnOk result (out.new ≡ out.old ++ got_text default.now replies.now) }
 {
     match first(replies) {
-        Some(reply) => write_gave(out, value_or(reply, default)),
+        Some(reply) => write_gave(out, value_or_default(reply, default)),
         None => Ok(()),
     }
 }
@@ -84,7 +85,7 @@ fn values_got<'a, 'b>(
 {
     let mut notes = Notes::new(alloc);
     for i in 0..keys.len().min(replies.len()) {
-        notes.note(&keys[i], value_or(&replies[i], default))?;
+        notes.note(&keys[i], value_or_default(&replies[i], default))?;
     }
     Ok(notes)
 }

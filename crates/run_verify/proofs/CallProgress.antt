@@ -13,9 +13,9 @@ use Rattle.script_read.specs.declared.script.Step.{Step}
 use Rattle.script_read.specs.Grammar.{ends_line}
 use Rattle.script_read.specs.Play.{Asking, Each, Steps, Next, Asks, Leaves, asking_of, asks_each, asks_steps, asks_so, next_of, slot_after, wanted, continued, wish_at}
 use Rattle.script_read.specs.Patterns.{call_pattern}
-use Rattle.reply_text.specs.Lines.{call_text, before, lines_from, script_lines}
+use Rattle.reply_text.specs.Lines.{call_text, before, call_lines, script_lines}
 use Rattle.run_verify.specs.declared.seat.Seat.{Seat}
-use Rattle.run_verify.specs.Seats.{is_asking, next_from, IsWithin, IsSeat, IsNextCall, IsAnswered, IsSearching, IsAsking}
+use Rattle.run_verify.specs.Seats.{is_asking, next_from, IsAmidCall, IsSeat, IsNextCall, HasReplyMore, IsSearching, IsAsking}
 
 pub asks_at : {X : Type 0} (ask : X → Request) (l : List X) (k : ℕ) (x : X) → slice_get l k ≡ Some x → Asks (ask x) ≡ asks_each (drop k (map ask l)) []
 asks_at ask [] k x h = absurd (cc h)
@@ -67,7 +67,7 @@ pub starts : (slots : ℕ) (asking : Asking) (more : List Reply) → asks_so slo
 starts slots (Each asked) more = refl
 starts slots (Steps ask) more = refl
 
-pub begins_within : (conf : Conf) (call : Call) (seat : Seat) → seat.replies ≡ [] → seat.from ≡ 0 → IsWithin conf call seat
+pub begins_within : (conf : Conf) (call : Call) (seat : Seat) → seat.replies ≡ [] → seat.from ≡ 0 → IsAmidCall conf call seat
 begins_within conf call seat none first = record {
   next = λ more.
       ap (λ (l : List Reply). next_of conf call (l ++ more)) none
@@ -103,7 +103,7 @@ next_call conf script rs old new step here less done n s = record {
   text = λ more.
       s.text more
       ∙ (ap (λ (l : List Step). old.text ++ script_lines conf l (old.replies ++ more)) left
-      ∙ (ap (λ x. old.text ++ lines_from step.call (old.replies ++ more) (script_lines conf (drop (old.step + 1) script)) x) (leaves more)
+      ∙ (ap (λ x. old.text ++ call_lines step.call (old.replies ++ more) (script_lines conf (drop (old.step + 1) script)) x) (leaves more)
       ∙ (ap (λ (l : List Reply). old.text ++ (call_text step.call l ++ ends_line ++ script_lines conf (drop (old.step + 1) script) more)) (before_these old.replies more)
       ∙ (sym (append_assoc old.text (call_text step.call old.replies ++ ends_line) (script_lines conf (drop (old.step + 1) script) more))
       ∙ (ap (λ l. l ++ script_lines conf (drop (old.step + 1) script) more) (sym n.text_is)
@@ -122,7 +122,7 @@ next_call conf script rs old new step here less done n s = record {
 pub answered : (conf : Conf) (script : List Step) (rs : List Reply) (old new : Seat) (y : Reply)
     → ((step : Step) → slice_get script old.step ≡ Some step → (r : Request) × (next_from conf.slots (asking_of step.call) (length old.replies) old.from [] ≡ Asks r))
     → ((step : Step) → slice_get script old.step ≡ Some step → old.search ≡ call_pattern step.call)
-    → IsAnswered conf y old new → IsSeat conf script rs old → IsSeat conf script (rs ++ y ∷ []) new
+    → HasReplyMore conf y old new → IsSeat conf script rs old → IsSeat conf script (rs ++ y ∷ []) new
 answered conf script rs old new y asks searched a s = record {
   within = omega (arith, a.step, s.within);
   wants = λ more.
@@ -248,7 +248,7 @@ searched_seat conf script rs old new h s = record {
 }
 
 pub asked_on : (conf : Conf) (script : List Step) (rs : List Reply) (first old new : Seat) (y : Reply) → IsSeat conf script rs first → IsAsking conf script first → IsSearching script first old
-    → IsAnswered conf y old new → IsSeat conf script (rs ++ y ∷ []) new
+    → HasReplyMore conf y old new → IsSeat conf script (rs ++ y ∷ []) new
 asked_on conf script rs first old new y s asking h a =
     answered conf script rs old new y (λ step here.
     let r = asking.asks step (ap (slice_get script) (sym h.step) ∙ here) in (

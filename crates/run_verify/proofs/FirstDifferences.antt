@@ -10,14 +10,14 @@ use Rattle.std.specs.Prelude.{Result, Ok, Err, IfErr}
 use Rattle.std.proofs.Math.Seq.{take-suc}
 use Rattle.run_verify.specs.TextPieces.{HasPiece, DiffersAt, worker_text}
 use Rattle.reply_text.specs.Output.{worker_texts}
-use Rattle.run_verify.specs.Verdicts.{first_difference, next_place}
+use Rattle.run_verify.specs.Verdicts.{first_difference, place_further}
 
 -- behind the same front
 front_same : (a b c : List ℕ) → first_difference b c ≡ Some 0 → first_difference (a ++ b) (a ++ c) ≡ Some (length a)
 front_same [] b c h = h
 front_same (x ∷ a) b c h =
-    ap (λ t. cond t (next_place (first_difference (a ++ b) (a ++ c))) (Some 0)) (eq-eqb x x refl)
-    ∙ (ap next_place (front_same a b c h) ∙ ap Some (omega arith))
+    ap (λ t. cond t (place_further (first_difference (a ++ b) (a ++ c))) (Some 0)) (eq-eqb x x refl)
+    ∙ (ap place_further (front_same a b c h) ∙ ap Some (omega arith))
 
 ends_first : (xs rest : List ℕ) (i : ℕ) → i < length xs → first_difference [] (drop i xs ++ rest) ≡ Some 0
 ends_first xs rest i low = ap (λ l. first_difference [] (l ++ rest)) (drop-cons xs i 0 low)
@@ -26,7 +26,7 @@ other_byte : (l xs rest : List ℕ) (i : ℕ) → i < length l → i < length xs
 other_byte l xs rest i a b ne =
     ap (λ m. first_difference m (drop i xs ++ rest)) (drop-cons l i 0 a)
     ∙ (ap (λ m. first_difference (get_or l i 0 ∷ drop (suc i) l) (m ++ rest)) (drop-cons xs i 0 b)
-    ∙ ap (λ t. cond t (next_place (first_difference (drop (suc i) l) (drop (suc i) xs ++ rest))) (Some 0)) (ne_eqb (get_or l i 0) (get_or xs i 0) ne))
+    ∙ ap (λ t. cond t (place_further (first_difference (drop (suc i) l) (drop (suc i) xs ++ rest))) (Some 0)) (ne_eqb (get_or l i 0) (get_or xs i 0) ne))
 
 take_drop : {X : Type 0} (i : ℕ) (xs : List X) → xs ≡ take i xs ++ drop i xs
 take_drop {X} zero [] = refl
@@ -69,14 +69,14 @@ to_end l at = take_all (drop at l) (length l - at) (omega (arith, length-drop at
 front_later : (a b c : List ℕ) (k : ℕ) → first_difference b c ≡ Some k → first_difference (a ++ b) (a ++ c) ≡ Some (length a + k)
 front_later [] b c k h = h ∙ ap Some (omega arith)
 front_later (x ∷ a) b c k h =
-    ap (λ t. cond t (next_place (first_difference (a ++ b) (a ++ c))) (Some 0)) (eq-eqb x x refl)
-    ∙ (ap next_place (front_later a b c k h) ∙ ap Some (omega arith))
+    ap (λ t. cond t (place_further (first_difference (a ++ b) (a ++ c))) (Some 0)) (eq-eqb x x refl)
+    ∙ (ap place_further (front_later a b c k h) ∙ ap Some (omega arith))
 
 pub front_none : (a b c : List ℕ) → first_difference b c ≡ None → first_difference (a ++ b) (a ++ c) ≡ None
 front_none [] b c h = h
 front_none (x ∷ a) b c h =
-    ap (λ t. cond t (next_place (first_difference (a ++ b) (a ++ c))) (Some 0)) (eq-eqb x x refl)
-    ∙ ap next_place (front_none a b c h)
+    ap (λ t. cond t (place_further (first_difference (a ++ b) (a ++ c))) (Some 0)) (eq-eqb x x refl)
+    ∙ ap place_further (front_none a b c h)
 
 pub joined : (o : List ℕ) (at mid to : ℕ) (a b : List ℕ) → HasPiece o at a mid → HasPiece o mid b to → HasPiece o at (a ++ b) to
 joined o at mid to a b f g = record {

@@ -13,7 +13,7 @@ use Rattle.apcu_model.specs.declared.request.Reply.{Reply}
 use Rattle.script_read.specs.Grammar.{ends_line}
 use Rattle.script_read.specs.Play.{Next, Asks, Leaves, next_of}
 use Rattle.script_read.specs.declared.script.Step.{Step}
-use Rattle.reply_text.specs.Lines.{call_text, before, lines_from, script_lines, texts_of}
+use Rattle.reply_text.specs.Lines.{call_text, before, call_lines, script_lines, texts_of}
 use Rattle.reply_text.specs.Output.{worker_texts, mask_text, mark_line, journal_lines}
 use Rattle.run_verify.specs.Verdicts.{behind, journal_from, journal_part, with_byte, lines_of}
 use Rattle.run_verify.specs.OutputLines.{IsInBits}
@@ -39,7 +39,7 @@ lines_end conf [] replies = refl
 lines_end conf (step ∷ steps) replies = by (next_of conf step.call replies) (λ others. lines_end conf steps others)
   where
     by : (n : Next) → ((others : List Reply) → begins_behind true (script_lines conf steps others) ≡ true)
-        → begins_behind true (lines_from step.call replies (script_lines conf steps) n) ≡ true
+        → begins_behind true (call_lines step.call replies (script_lines conf steps) n) ≡ true
     by (Asks request) later = refl
     by (Leaves others) later =
         let text = call_text step.call (before others replies) in

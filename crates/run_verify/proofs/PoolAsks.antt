@@ -15,7 +15,7 @@ use Rattle.simple_pool.specs.declared.call.PoolAsk.TheVariants as pools
 use Rattle.simple_pool.specs.Names.{braced, is_name_byte, is_reserved, is_good_name, is_good_key, pool_key, pattern_of}
 use Rattle.simple_pool.specs.Requests.{PoolAsking, Each, IsGoodCall, is_good_ask, are_good_pairs, is_good_ttl, pool_asking, pool_step, ask_pattern, asked_at, set_of, store_of}
 use Rattle.script_read.specs.Play.{Asks, Leaves, asking_in, asks_each}
-use Rattle.mark_play.specs.Asks.{MayAsk}
+use Rattle.mark_play.specs.Asks.{MayBeAsked}
 use Rattle.run_verify.specs.Seats.{IsNextEvent, next_from}
 
 -- ---- the event of this number is the next
@@ -79,42 +79,42 @@ own_fits key good = leb-true (length key) 4294967229 (and_parts (nat_le (length 
 key_fits : (pool key : List ℕ) → is_good_name pool ≡ true → is_good_key key ≡ true → length (pool_key pool key) < 2 ^ 32
 key_fits pool key named good = omega (arith, length-append (braced pool) key, length-append pool (125 ∷ []), name_fits pool named, own_fits key good)
 
-set_may : (conf : Conf) (p : Option Pattern) (b : Bool) (key : List ℕ) (value : List Kind) (ttl : ℕ) → length key < 2 ^ 32 → MayAsk conf p (cond b (requests.Store key value ttl false) (requests.Delete key))
+set_may : (conf : Conf) (p : Option Pattern) (b : Bool) (key : List ℕ) (value : List Kind) (ttl : ℕ) → length key < 2 ^ 32 → MayBeAsked conf p (cond b (requests.Store key value ttl false) (requests.Delete key))
 set_may conf p true key value ttl fits = fits
 set_may conf p false key value ttl fits = fits
 
 -- by its form
-ask_may : (conf : Conf) (pool : List ℕ) (ask : PoolAsk) (k from : ℕ) (r : Request) → is_good_name pool ≡ true → is_good_ask ask ≡ true → next_from conf.slots (asking_in (pool_asking pool ask)) k from [] ≡ Asks r → MayAsk conf (ask_pattern pool ask) r
-ask_may conf pool (pools.Get key default) k from r named good h = one_may (MayAsk conf None) (requests.Fetch (pool_key pool key)) k r (key_fits pool key named good) (at_back _ k r h)
+ask_may : (conf : Conf) (pool : List ℕ) (ask : PoolAsk) (k from : ℕ) (r : Request) → is_good_name pool ≡ true → is_good_ask ask ≡ true → next_from conf.slots (asking_in (pool_asking pool ask)) k from [] ≡ Asks r → MayBeAsked conf (ask_pattern pool ask) r
+ask_may conf pool (pools.Get key default) k from r named good h = one_may (MayBeAsked conf None) (requests.Fetch (pool_key pool key)) k r (key_fits pool key named good) (at_back _ k r h)
 ask_may conf pool (pools.Set key value ttl) k from r named good h =
-    one_may (MayAsk conf None) (set_of pool (key, value) ttl) k r (set_may conf None (int_lt (pos 0) ttl) (pool_key pool key) value (nat_abs ttl) (key_fits pool key named (and_parts (is_good_key key) (is_good_ttl ttl) good).0)) (at_back _ k r h)
-ask_may conf pool (pools.SetPlain key value) k from r named good h = one_may (MayAsk conf None) (store_of pool (key, value) 0) k r (key_fits pool key named good) (at_back _ k r h)
-ask_may conf pool (pools.Delete key) k from r named good h = one_may (MayAsk conf None) (requests.Delete (pool_key pool key)) k r (key_fits pool key named good) (at_back _ k r h)
+    one_may (MayBeAsked conf None) (set_of pool (key, value) ttl) k r (set_may conf None (int_lt (pos 0) ttl) (pool_key pool key) value (nat_abs ttl) (key_fits pool key named (and_parts (is_good_key key) (is_good_ttl ttl) good).0)) (at_back _ k r h)
+ask_may conf pool (pools.SetPlain key value) k from r named good h = one_may (MayBeAsked conf None) (store_of pool (key, value) 0) k r (key_fits pool key named good) (at_back _ k r h)
+ask_may conf pool (pools.Delete key) k from r named good h = one_may (MayBeAsked conf None) (requests.Delete (pool_key pool key)) k r (key_fits pool key named good) (at_back _ k r h)
 ask_may conf pool pools.Clear k from r named good h = go (nat_lt from conf.slots) refl h
   where
     step : Request
     step = requests.ChunkDelete (Some (pattern_of pool)) from pool_step
 
-    go : (b : Bool) → nat_lt from conf.slots ≡ b → cond b (Asks step) (Leaves []) ≡ Asks r → MayAsk conf (Some (pattern_of pool)) r
+    go : (b : Bool) → nat_lt from conf.slots ≡ b → cond b (Asks step) (Leaves []) ≡ Asks r → MayBeAsked conf (Some (pattern_of pool)) r
     go true less q =
         let e : step ≡ r = cc q in
         let within : from ≤ conf.slots = omega (arith, ltb-true from conf.slots less) in
-        subst (MayAsk conf (Some (pattern_of pool))) e (record { same = refl; within = within; some = omega arith })
+        subst (MayBeAsked conf (Some (pattern_of pool))) e (record { same = refl; within = within; some = omega arith })
     go false over q = absurd (cc q)
 ask_may conf pool (pools.GetMany keys default) k from r named good h =
-    map_may (MayAsk conf None) (λ (key : List ℕ). requests.Fetch (pool_key pool key)) is_good_key keys k r (λ key own. key_fits pool key named own) good (at_back _ k r h)
+    map_may (MayBeAsked conf None) (λ (key : List ℕ). requests.Fetch (pool_key pool key)) is_good_key keys k r (λ key own. key_fits pool key named own) good (at_back _ k r h)
 ask_may conf pool (pools.SetMany pairs ttl) k from r named good h =
-    map_may (MayAsk conf None) (λ (pair : List ℕ × List Kind). set_of pool pair ttl) (λ (pair : List ℕ × List Kind). is_good_key pair.0) pairs k r
+    map_may (MayBeAsked conf None) (λ (pair : List ℕ × List Kind). set_of pool pair ttl) (λ (pair : List ℕ × List Kind). is_good_key pair.0) pairs k r
     (λ pair own. set_may conf None (int_lt (pos 0) ttl) (pool_key pool pair.0) pair.1 (nat_abs ttl) (key_fits pool pair.0 named own)) (and_parts (are_good_pairs pairs) (is_good_ttl ttl) good).0 (at_back _ k r h)
 ask_may conf pool (pools.SetManyPlain pairs) k from r named good h =
-    map_may (MayAsk conf None) (λ (pair : List ℕ × List Kind). store_of pool pair 0) (λ (pair : List ℕ × List Kind). is_good_key pair.0) pairs k r (λ pair own. key_fits pool pair.0 named own) good (at_back _ k r h)
+    map_may (MayBeAsked conf None) (λ (pair : List ℕ × List Kind). store_of pool pair 0) (λ (pair : List ℕ × List Kind). is_good_key pair.0) pairs k r (λ pair own. key_fits pool pair.0 named own) good (at_back _ k r h)
 ask_may conf pool (pools.DeleteMany keys) k from r named good h =
-    map_may (MayAsk conf None) (λ (key : List ℕ). requests.Delete (pool_key pool key)) is_good_key keys k r (λ key own. key_fits pool key named own) good (at_back _ k r h)
-ask_may conf pool (pools.Has key) k from r named good h = one_may (MayAsk conf None) (requests.Exists (pool_key pool key)) k r (key_fits pool key named good) (at_back _ k r h)
+    map_may (MayBeAsked conf None) (λ (key : List ℕ). requests.Delete (pool_key pool key)) is_good_key keys k r (λ key own. key_fits pool key named own) good (at_back _ k r h)
+ask_may conf pool (pools.Has key) k from r named good h = one_may (MayBeAsked conf None) (requests.Exists (pool_key pool key)) k r (key_fits pool key named good) (at_back _ k r h)
 
 -- the request of the next event
 pub event_may : (conf : Conf) (call : PoolCall) (k from event : ℕ) (r : Request) → IsGoodCall call → IsNextEvent call (next_from conf.slots (asking_in (pool_asking call.pool call.ask)) k from []) (Some event)
-    → asked_at (pool_asking call.pool call.ask) event ≡ Some r → MayAsk conf (ask_pattern call.pool call.ask) r
+    → asked_at (pool_asking call.pool call.ask) event ≡ Some r → MayBeAsked conf (ask_pattern call.pool call.ask) r
 event_may conf call k from event r good next is =
     let e : next.0 ≡ r = cc (next.1, is) in
     ask_may conf call.pool call.ask k from r good.named good.asks_well (next.2 ∙ ap Asks e)

@@ -9,7 +9,7 @@ use Rattle.script_read.specs.Clock.{timed_step, timed, all_timed}
 use Rattle.script_read.specs.Patterns.{call_pattern}
 use Rattle.script_read.specs.Play.{asking_of}
 use Rattle.run_verify.specs.declared.seat.Seat.{Seat}
-use Rattle.run_verify.specs.Seats.{next_from, IsSeat, IsAsking, IsSearching, IsAnswered, KnowsPattern}
+use Rattle.run_verify.specs.Seats.{next_from, IsSeat, IsAsking, IsSearching, HasReplyMore, KnowsPattern}
 use Rattle.run_verify.proofs.CallProgress.{asked_on}
 
 pub at_map : {X Y : Type 0} (f : X → Y) (l : List X) (k : ℕ) (x : X) → slice_get l k ≡ Some x → slice_get (map f l) k ≡ Some (f x)
@@ -54,6 +54,6 @@ knows clock conf script rs seat s step here some = (s.call (timed_step clock ste
 
 -- from a seat that asks to the one with the answer
 pub asked_timed : (clock : Clock) (conf : Conf) (script : List Step) (rs : List Reply) (first old new : Seat) (y : Reply) → IsSeat conf (timed clock script) rs first → IsAsking conf script first
-    → IsSearching script first old → IsAnswered conf y old new → IsSeat conf (timed clock script) (rs ++ y ∷ []) new
+    → IsSearching script first old → HasReplyMore conf y old new → IsSeat conf (timed clock script) (rs ++ y ∷ []) new
 asked_timed clock conf script rs first old new y s asking h a =
     asked_on conf (timed clock script) rs first old new y s (asking_timed clock conf script first asking) (searching_timed clock script first old h) a

@@ -14,14 +14,14 @@ use Rattle.script_read.specs.Play.{Wish, Play, wanted, replies_of, script_of, wi
 use Rattle.reply_text.specs.Lines.{texts_of}
 use Rattle.reply_text.specs.Output.{worker_texts, mark_line, journal_lines, play_text, IsOutput}
 use Rattle.run_verify.specs.declared.verifying.Verdict.TheVariants.{Yes, Event}
-use Rattle.run_verify.specs.Verdicts.{first_difference, next_place, byte_verdict, judged_end, played_line, with_mark, go_on, judged, judged_part, verdict_of, journal_part, lines_of, mark_of_line}
+use Rattle.run_verify.specs.Verdicts.{first_difference, place_further, byte_verdict, judged_end, played_line, with_mark, go_on, judged, judged_part, verdict_of, journal_part, lines_of, mark_of_line}
 use Rattle.run_verify.proofs.MarkLines.{read}
 use Rattle.run_verify.proofs.LinePieces.{same_none}
 use Rattle.run_verify.proofs.OutputJournals.{AllInBits, output_part, marks_lines}
 
 -- ---- only outputs
 
-no_place : (o : Option ℕ) → next_place o ≡ None → o ≡ None
+no_place : (o : Option ℕ) → place_further o ≡ None → o ≡ None
 no_place None e = refl
 no_place (Some p) e = absurd cc
 
@@ -31,7 +31,7 @@ same_text [] (y ∷ ys) e = absurd cc
 same_text (x ∷ xs) [] e = absurd cc
 same_text (x ∷ xs) (y ∷ ys) e = by (x == y) refl e (same_text xs ys)
   where
-    by : (t : Bool) → (x == y) ≡ t → cond t (next_place (first_difference xs ys)) (Some 0) ≡ None → (first_difference xs ys ≡ None → xs ≡ ys) → x ∷ xs ≡ y ∷ ys
+    by : (t : Bool) → (x == y) ≡ t → cond t (place_further (first_difference xs ys)) (Some 0) ≡ None → (first_difference xs ys ≡ None → xs ≡ ys) → x ∷ xs ≡ y ∷ ys
     by false d e later = absurd cc
     by true d e later =
         let head : x ≡ y = eqb-true x y d in

@@ -22,7 +22,8 @@ pub record IsMade (conf : Conf) (script : List Step) (replies : List Reply) (old
   pub seat_is : IsSeat conf script (replies ++ reply_in old.stage (event_of mark wish) ∷ []) seat
 
 -- or it wants nothing
-abbrev pub IsMarked : Conf → List Step → List Reply → Replayed → Replayed → Seat → Mark → Bool
+abbrev pub IsMadeIfWanted : Conf → List Step → List Reply → Replayed → Replayed → Seat → Mark → Bool
     → Type 0
-IsMarked conf script replies old new seat mark true = IsMade conf script replies old new seat mark
-IsMarked conf script replies old new seat mark false = wanted conf script replies ≡ None
+IsMadeIfWanted conf script replies old new seat mark true =
+    IsMade conf script replies old new seat mark
+IsMadeIfWanted conf script replies old new seat mark false = wanted conf script replies ≡ None

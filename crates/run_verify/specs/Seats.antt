@@ -19,7 +19,7 @@ use Rattle.script_read.specs.Play.{asks_steps, next_of, wanted, slot_after, Wish
 use Rattle.script_read.specs.Clock.{timed}
 use Rattle.script_read.specs.Patterns.{call_pattern}
 use Rattle.reply_text.specs.Lines.{script_lines}
-use Rattle.mark_play.specs.Asks.{MayAsk}
+use Rattle.mark_play.specs.Asks.{MayBeAsked}
 use Rattle.run_verify.specs.declared.asking.Query.{Query}
 use Rattle.run_verify.specs.declared.asking.Query.TheVariants.{Lent, Made}
 use Rattle.run_verify.specs.declared.seat.Seat.{Seat}
@@ -67,7 +67,7 @@ AsksPairs pairs k found =
     → asks_or (option_map ask found) ≡ asks_each (drop k (map ask pairs)) []
 
 -- The call goes on so after its replies.
-pub record IsWithin (conf : Conf) (call : Call) (seat : Seat) : Type 0 where
+pub record IsAmidCall (conf : Conf) (call : Call) (seat : Seat) : Type 0 where
   pub next : (more : List Reply) → next_of conf call (seat.replies ++ more)
       ≡ next_from conf.slots (asking_of call) (length seat.replies) seat.from more
   pub pattern : seat.replies ≢ [] → seat.search ≡ call_pattern call
@@ -82,7 +82,7 @@ pub record IsSeat (conf : Conf) (script : List Step) (replies : List Reply) (sea
   pub text : (more : List Reply) → script_lines conf script (replies ++ more)
       ≡ seat.text ++ script_lines conf (drop seat.step script) (seat.replies ++ more)
   pub call : (step : Step) → slice_get script seat.step ≡ Some step
-      → IsWithin conf step.call seat
+      → IsAmidCall conf step.call seat
 
 -- its call, if there is one, asks something
 pub record IsAsking (conf : Conf) (script : List Step) (seat : Seat) : Type 0 where
@@ -104,7 +104,7 @@ pub record IsNextCall (text : List ℕ) (old new : Seat) : Type 0 where
   pub text_is : new.text ≡ old.text ++ text
 
 -- it has this reply more, and nothing else has changed
-pub record IsAnswered (conf : Conf) (reply : Reply) (old new : Seat) : Type 0 where
+pub record HasReplyMore (conf : Conf) (reply : Reply) (old new : Seat) : Type 0 where
   pub step : new.step ≡ old.step
   pub replies : new.replies ≡ old.replies ++ reply ∷ []
   pub from : new.from ≡ slot_after conf.slots old.from reply
@@ -121,8 +121,8 @@ pub record IsSearching (script : List Step) (old new : Seat) : Type 0 where
       → new.search ≡ call_pattern step.call
 
 -- a request and its moment
-abbrev pub wish_in : Query × ℕ → Wish
-wish_in w = record { request = queried w.0; t = w.1 }
+abbrev pub queried_wish : Query × ℕ → Wish
+queried_wish w = record { request = queried w.0; t = w.1 }
 
 -- it may be asked with the search for the call that the seat is at
 pub record IsAskable (conf : Conf) (script : List Step) (seat : Seat) (request : Request)
@@ -130,7 +130,7 @@ pub record IsAskable (conf : Conf) (script : List Step) (seat : Seat) (request :
   pub may : (searched : Option Pattern)
       → ((step : Step) → slice_get script seat.step ≡ Some step
       → searched ≡ call_pattern step.call)
-      → MayAsk conf searched request
+      → MayBeAsked conf searched request
 
 -- a seat whose call has asked has the search for its pattern
 abbrev pub KnowsPattern : List Step → Seat → Type 0

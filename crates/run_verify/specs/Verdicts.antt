@@ -82,9 +82,9 @@ mark_of_line line = if_spelled line (numbers_from 0 None line)
 
 -- ---- the first difference
 
-abbrev pub next_place : Option ℕ → Option ℕ
-next_place None = None
-next_place (Some p) = Some (p + 1)
+abbrev pub place_further : Option ℕ → Option ℕ
+place_further None = None
+place_further (Some p) = Some (p + 1)
 
 -- the first place at which two texts differ; the end of one is such a place
 abbrev pub first_difference : List ℕ → List ℕ → Option ℕ
@@ -92,7 +92,7 @@ first_difference [] [] = None
 first_difference [] (y ∷ ys) = Some 0
 first_difference (x ∷ xs) [] = Some 0
 first_difference (x ∷ xs) (y ∷ ys) =
-    if x == y then next_place (first_difference xs ys) else Some 0
+    if x == y then place_further (first_difference xs ys) else Some 0
 
 abbrev pub byte_verdict : Option ℕ → Verdict
 byte_verdict None = Yes

@@ -5,7 +5,7 @@ ghost use Rattle.std.specs.Prelude.{option_map, IfOk, IfSome};
 ghost use Rattle.apcu_model.specs.Asking.{asked};
 ghost use Rattle.script_read.specs.Calls.{HasRanges};
 ghost use Rattle.script_read.specs.Play.{asking_of, asks_each, slot_after, step_end};
-ghost use Rattle.mark_play.specs.Asks.{MayAsk};
+ghost use Rattle.mark_play.specs.Asks.{MayBeAsked};
 ghost use Rattle.script_read.specs.Patterns.{call_pattern};
 ghost use Rattle.run_verify.specs.Seats.{AsksKeys, AsksPairs, IsLent, asks_or, is_asking};
 ghost use Rattle.run_verify.specs.Seats.{next_from, queried};
@@ -80,7 +80,7 @@ pub(crate) fn query_of<'a>(
     ensures next { IfOk result (λ query. asks_or (option_map queried query)
         ≡ next_from conf.now.slots (asking_of call.now) k from []) }
     ensures may { IfOk result (λ query. IfSome query (λ q.
-        MayAsk conf.now (call_pattern call.now) (queried q))) }
+        MayBeAsked conf.now (call_pattern call.now) (queried q))) }
 {
     if let Call::Pool(boxed) = call {
         return match pool_request(alloc, boxed.call(), conf, k, from)? {
@@ -111,7 +111,7 @@ fn ask_of<'a>(call: &'a Call, conf: &Conf, k: usize, from: u32) -> Option<Ask<'a
     requires lent { IsLent call.now }
     ensures next { asks_or (option_map asked result)
         ≡ next_from conf.now.slots (asking_of call.now) k from [] }
-    ensures may { IfSome result (λ ask. MayAsk conf.now (call_pattern call.now) (asked ask)) }
+    ensures may { IfSome result (λ ask. MayBeAsked conf.now (call_pattern call.now) (asked ask)) }
 {
     match call {
         Call::StoreOne {

@@ -5,10 +5,10 @@
 mod asking;
 mod comparing;
 mod fault;
+mod game_so_far;
 mod laws;
 mod marks;
 mod patterns;
-mod played;
 mod pools;
 mod reading;
 mod seat;

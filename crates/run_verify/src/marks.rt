@@ -6,13 +6,13 @@ ghost use Rattle.script_read.specs.Clock.{timed, all_timed};
 ghost use Rattle.script_read.specs.Patterns.{HasRefusable, SomeRefusable};
 ghost use Rattle.script_read.specs.Play.{marked};
 ghost use Rattle.run_verify.specs.Games.{IsGame};
-ghost use Rattle.run_verify.specs.Marks.{IsMarked};
+ghost use Rattle.run_verify.specs.Marks.{IsMadeIfWanted};
 ghost use Rattle.run_verify.specs.Seats.{IsAnySeat, IsSeat};
 ghost use Rattle.run_verify.specs.declared.fault.VerifyFault.TheVariants.{Pattern};
 
 use crate::fault::VerifyFault;
+use crate::game_so_far::GameSoFar;
 use crate::patterns::search_for;
-use crate::played::Played;
 use crate::seat::{Seat, keep, settle, wish_of};
 use apcu_iter::Maker;
 use apcu_model::{Clock, Conf, Mark};
@@ -38,8 +38,8 @@ fn play_wish<M: Maker>(
     requires shape { replay.old.stage.cache.conf ≡ conf.now }
     ensures marked { IfOk result (λ wants. (replies : List Reply)
         → IsSeat conf.now (timed clock script.now) replies seat.old
-        → IsMarked conf.now (timed clock script.now) replies replay.old replay.new seat.new mark
-        wants) }
+        → IsMadeIfWanted conf.now (timed clock script.now) replies replay.old replay.new
+        seat.new mark wants) }
     ensures pattern { IfErr result (λ fault. fault ≡ Pattern
         → HasRefusable (M.may_refuse maker.now) script.now) }
 {
@@ -66,14 +66,14 @@ pub(crate) fn play_mark<M: Maker>(
     scripts: &Scripts,
     replay: &mut Replay,
     seats: &mut [Seat],
-    played: &Played,
+    played: &GameSoFar,
     mark: Mark,
-) -> Result<Option<Played>, VerifyFault>
+) -> Result<Option<GameSoFar>, VerifyFault>
     requires worker { mark.worker < 64 }
     requires game { IsGame conf.now (all_timed clock scripts.now) replay.old seats.old
         played.now.game }
     requires left { 0 < replay.old.left }
-    ensures marked { IfOk result (λ q. option_map (λ (p : Played). p.game.play) q
+    ensures marked { IfOk result (λ q. option_map (λ (p : GameSoFar). p.game.play) q
         ≡ marked conf.now (all_timed clock scripts.now) played.now.game.play mark) }
     ensures game { IfOk result (λ q. IfSome q (λ p.
         IsGame conf.now (all_timed clock scripts.now) replay.new seats.new p.game)) }

@@ -3,7 +3,7 @@
 ghost use Rattle.std.specs.Prelude.{◌≡◌, if◌then◌else◌, nat_lt, [], Some, None, IfOk, IfSome};
 ghost use Rattle.simple_pool.specs.Requests.{IsGoodCall, ask_pattern, pool_asking};
 ghost use Rattle.script_read.specs.Play.{asking_in};
-ghost use Rattle.mark_play.specs.Asks.{MayAsk};
+ghost use Rattle.mark_play.specs.Asks.{MayBeAsked};
 ghost use Rattle.run_verify.specs.Seats.{IsNextEvent, asks_or, is_asking, next_from};
 
 use apcu_model::{Conf, Request};
@@ -60,7 +60,7 @@ pub(crate) fn pool_request(
     ensures next { IfOk result (λ request. asks_or request ≡ next_from conf.now.slots
         (asking_in (pool_asking call.now.pool call.now.ask)) k from []) }
     ensures may { IfOk result (λ request. IfSome request (λ r.
-        MayAsk conf.now (ask_pattern call.now.pool call.now.ask) r)) }
+        MayBeAsked conf.now (ask_pattern call.now.pool call.now.ask) r)) }
 {
     match next_event(call, conf.slots, k, from) {
         Some(event) => Ok(Some(request(alloc, call, event)?)),

@@ -6,8 +6,9 @@ ghost use Rattle.reply_text.specs.Lines.{call_text};
 ghost use Rattle.script_read.specs.Clock.{timed};
 ghost use Rattle.script_read.specs.Grammar.{ends_line};
 ghost use Rattle.script_read.specs.Play.{moment_for, wanted};
-ghost use Rattle.run_verify.specs.Seats.{IsAsking, IsFirst, IsNextCall, IsSeat, KnowsDone, wish_in};
-ghost use Rattle.run_verify.specs.Seats.{IsAnswered, IsAskable, queried};
+ghost use Rattle.run_verify.specs.Seats.{IsAsking, IsFirst, IsNextCall, IsSeat, KnowsDone};
+ghost use Rattle.run_verify.specs.Seats.{queried_wish};
+ghost use Rattle.run_verify.specs.Seats.{HasReplyMore, IsAskable, queried};
 
 use crate::asking::{Query, asks, query_of, slot_after};
 use apcu_iter::{RefuseAll, Search};
@@ -146,7 +147,7 @@ pub(crate) fn wish_of<'a>(
     requires { IsAsking conf.now script.now seat.now }
     ensures wish { IfOk result (λ wish. (replies : List _)
         → IsSeat conf.now (timed clock script.now) replies seat.now
-        → wanted conf.now (timed clock script.now) replies ≡ option_map wish_in wish) }
+        → wanted conf.now (timed clock script.now) replies ≡ option_map queried_wish wish) }
     ensures may { IfOk result (λ wish. IfSome wish (λ w.
         IsAskable conf.now script.now seat.now (queried w.0))) }
 {
@@ -169,7 +170,7 @@ pub(crate) fn wish_of<'a>(
 
 // Keeps a reply of the call that the seat is at.
 pub(crate) fn keep(conf: &Conf, seat: &mut Seat, reply: Reply) -> Result<(), AllocError>
-    ensures { OnOk result (IsAnswered conf.now reply seat.old seat.new) }
+    ensures { OnOk result (HasReplyMore conf.now reply seat.old seat.new) }
 {
     seat.from = slot_after(conf.slots, seat.from, &reply);
     seat.replies.push(reply)?;

@@ -19,7 +19,7 @@ use Rattle.script_read.specs.declared.choices.Asked.{Asked}
 use Rattle.script_read.specs.declared.choices.Asked.TheVariants as asked_kinds
 use Rattle.script_read.specs.declared.choices.Stored.{Stored}
 use Rattle.script_read.specs.declared.choices.Stored.TheVariants as stored_kinds
-use Rattle.script_read.specs.Arguments.{ttl, each, or_else, key, integer, from_to, chunk_size, members, string_of, member_string, keys, key_bytes, member_value, pair_at, pairs, asked_of, stored, null, kept_if, own_ttl}
+use Rattle.script_read.specs.Arguments.{ttl_in, each, or_else, key, integer, from_to, chunk_size, members, string_of_kind, member_string, keys, key_bytes, member_value, pair_at, pairs, asked_of, stored, null, kept_if, own_ttl}
 use Rattle.script_read.specs.Calls.{most_items}
 use Rattle.script_read.specs.GenParts.{literal_gen, entry_round}
 use Rattle.script_read.specs.Grammar.{WrittenGen, Literal, Nested, Limited, IsWrittenGen, gen_meant}
@@ -66,7 +66,7 @@ place_fits [] x kind fits is = absurd cc
 place_fits (first ∷ g) zero kind fits is = subst FitsKind (some_is first kind is) fits.0
 place_fits (first ∷ g) (suc x) kind fits is = place_fits g x kind fits.1 is
 
-string_fits : (kind : Kind) (k : List ℕ) → FitsKind kind → string_of kind ≡ Some k → AreSomeBytes k
+string_fits : (kind : Kind) (k : List ℕ) → FitsKind kind → string_of_kind kind ≡ Some k → AreSomeBytes k
 string_fits (kinds.Str bytes) k fits is = subst AreSomeBytes (some_is bytes k is) fits.1
 string_fits kinds.Null k fits is = absurd cc
 string_fits (kinds.Bool b) k fits is = absurd cc
@@ -79,7 +79,7 @@ member_fits : (g : List Kind) (c : Child) (k : List ℕ) → AllByRecursion Fits
 member_fits g (Back x) k fits is = absurd cc
 member_fits g (Own zero) k fits is = absurd cc
 member_fits g (Own (suc x)) k fits is =
-    let s = then_some string_of (slice_get g x) k is in
+    let s = then_some string_of_kind (slice_get g x) k is in
     string_fits s.0 k (place_fits g x s.0 fits s.1) s.2
 
 -- the members fit where they are keys with what fits
@@ -213,4 +213,4 @@ gen_fits levels (Literal g) gen are means = subst (FitsGen levels) (some_is (lit
 gen_fits zero (Nested k inner) gen are means = absurd cc
 gen_fits (suc levels) (Nested k inner) gen are means = entry_fits levels k (gen_meant levels inner) (Some 0) gen are.0 (λ found is. gen_fits levels inner found are.1 is) means
 gen_fits zero (Limited k inner t) gen are means = absurd cc
-gen_fits (suc levels) (Limited k inner t) gen are means = entry_fits levels k (gen_meant levels inner) (ttl t) gen are.0 (λ found is. gen_fits levels inner found are.1 is) means
+gen_fits (suc levels) (Limited k inner t) gen are means = entry_fits levels k (gen_meant levels inner) (ttl_in t) gen are.0 (λ found is. gen_fits levels inner found are.1 is) means

@@ -13,10 +13,10 @@ use Rattle.script_read.specs.declared.effect.Effect.TheVariants.{Sets, Begins, C
 use Rattle.script_read.specs.declared.effect.Moments.{Moments}
 use Rattle.script_read.specs.declared.script.Step.{Step}
 use Rattle.script_read.specs.Table.{Form, Done, Need, May, Make, Refuse}
-use Rattle.script_read.specs.Arguments.{key, ttl}
+use Rattle.script_read.specs.Arguments.{key, ttl_in}
 use Rattle.script_read.specs.GenParts.{literal_gen, entry_round}
 use Rattle.script_read.specs.Grammar.{entry_word, inner_levels, most_workers}
-use Rattle.script_read.specs.Clock.{at_first, request_at, step_at}
+use Rattle.script_read.specs.Clock.{at_first, request_moments, step_at}
 use Rattle.script_read.specs.Reading.{space_at, one_more_at, end_at, ends_here, chosen, choice_at, separator_at, limit_at, literal_at, entry_at, begins_entry, generator_at, rest_at, word_len, line_word, behind_word, worker_at, form_after, line_at, is_worker, Rest, with_effect, lines_at, scripts_at}
 
 -- no more than n bytes are left, or are there from the fault on
@@ -88,9 +88,9 @@ unfolding limit_at
 limit_within law n [] h = omega arith
 limit_within law n (b ∷ rest) h =
     let fewer : length rest ≤ n = omega (arith, h) in
-    cond_within n behind (b == 41) (Ok (0, rest)) (cond (b == 32) (choice_at ttl rest >>= λ t. separator_at 41 t.1 >>= λ after. Ok (t.0, after)) (fail reasons.Separator (b ∷ rest))) fewer
-    (cond_within n behind (b == 32) (choice_at ttl rest >>= λ t. separator_at 41 t.1 >>= λ after. Ok (t.0, after)) (fail reasons.Separator (b ∷ rest))
-    (then_within n behind behind (choice_at ttl rest) (λ t. separator_at 41 t.1 >>= λ after. Ok (t.0, after)) (choice_within law ttl n rest fewer)
+    cond_within n behind (b == 41) (Ok (0, rest)) (cond (b == 32) (choice_at ttl_in rest >>= λ t. separator_at 41 t.1 >>= λ after. Ok (t.0, after)) (fail reasons.Separator (b ∷ rest))) fewer
+    (cond_within n behind (b == 32) (choice_at ttl_in rest >>= λ t. separator_at 41 t.1 >>= λ after. Ok (t.0, after)) (fail reasons.Separator (b ∷ rest))
+    (then_within n behind behind (choice_at ttl_in rest) (λ t. separator_at 41 t.1 >>= λ after. Ok (t.0, after)) (choice_within law ttl_in n rest fewer)
     (λ t k. then_within n same behind (separator_at 41 t.1) (λ after. Ok (t.0, after)) (separator_within 41 n t.1 k) (λ after m. m))) h)
 
 literal_within : ValuesInside → (n : ℕ) (bytes : List ℕ) → length bytes ≤ n → Within n (behind {A = Generator}) (literal_at bytes)
@@ -141,7 +141,7 @@ line_within law n begun line h = form_within law (form_after begun (line_word li
 
 effect_within : (n : ℕ) (now : Moments) (others : Moments → Result Rest Fault) (e : Effect) → ((later : Moments) → Within n (none {A = Rest}) (others later)) → Within n (none {A = Rest}) (with_effect now others e)
 effect_within n now others (Sets u) within = within (record now { t = u })
-effect_within n now others (Begins u) within = within (request_at u)
+effect_within n now others (Begins u) within = within (request_moments u)
 effect_within n now others (Calls call) within = then_within n none none (others now) (λ more. Ok (step_at now call ∷ more.0, more.1)) (within now) (λ more k. omega arith)
 
 lines_within : ValuesInside → (lines begun : ℕ) (now : Moments) (n : ℕ) (bytes : List ℕ) → length bytes ≤ n → Within n (none {A = Rest}) (lines_at lines begun now bytes)

@@ -17,12 +17,12 @@ use Rattle.script_read.specs.declared.choices.Stored.{Stored}
 use Rattle.script_read.specs.declared.choices.Stored.TheVariants as stored_kinds
 use Rattle.script_read.specs.declared.effect.Effect.{Effect}
 use Rattle.script_read.specs.declared.effect.Effect.TheVariants.{Sets, Begins, Calls}
-use Rattle.script_read.specs.Arguments.{any_value, ttl, search_for, fields, all_fields, which_list, null_value, key, integer, chunk_size, keys, pairs, asked_of, stored, null, pool_name, own_key, own_keys, own_pairs, own_ttl}
+use Rattle.script_read.specs.Arguments.{any_value, ttl_in, search_for, fields, all_fields, which_list, null_value, key, integer, chunk_size, keys, pairs, asked_of, stored, null, pool_name, own_key, own_keys, own_pairs, own_ttl}
 use Rattle.script_read.specs.Calls.{HasRanges}
 use Rattle.script_read.specs.GenParts.{entry_round}
 use Rattle.script_read.specs.Grammar.{Argument, Plain, Making, AreArguments, gen_meant, inner_levels, effect_by}
 use Rattle.script_read.specs.Ranges.{keys_in_pairs, keys_asked, keys_called}
-use Rattle.script_read.specs.Table.{Form, Done, Need, May, Make, Refuse, or_refuse, taken, needs, may, calls, step_by, pool_call, store_by, fetch_of, exists_of, delete_of, count_form, cas_form, entry_form, key_info_form, usual_size, walk_form, walk_delete_form, totals_form, set_ask, set_many_ask, pool_get_form, pool_set_form, pool_delete_form, pool_clear_form, pool_get_multiple_form, pool_set_multiple_form, pool_delete_multiple_form, pool_has_form}
+use Rattle.script_read.specs.Table.{Form, Done, Need, May, Make, Refuse, or_refuse, taken, needs, may, call_form, step_by, pool_call, store_by, fetch_of, exists_of, delete_of, count_form, cas_form, entry_form, key_info_form, usual_size, walk_form, walk_delete_form, totals_form, set_ask, set_many_ask, pool_get_form, pool_set_form, pool_delete_form, pool_clear_form, pool_get_multiple_form, pool_set_multiple_form, pool_delete_multiple_form, pool_has_form}
 use Rattle.script_read.proofs.ResultBinds.{some_is, then_some}
 use Rattle.script_read.proofs.ArgumentRanges.{AreKeys, key_fits, keys_fit, Pair, pairs_fit, keys_of_asked, asked_fits, keys_of_stored, stored_fits, size_fits, kept_is, both, ttl_fits, FitsGen, gen_fits}
 
@@ -84,11 +84,11 @@ pub stored_rows : (exclusive : Bool) → FitsForm (needs stored (store_by exclus
 stored_rows exclusive = needs_fit stored (store_by exclusive) (λ g s graph is. by_kind s (stored_fits g s graph is))
   where
     by_kind : (s : Stored) → AreKeys (keys_of_stored s) → FitsForm (store_by exclusive s)
-    by_kind (stored_kinds.One k) fit = needs_any any_value (λ v. may 0 ttl (λ t. calls (StoreOne k v t exclusive))) (λ v. may_any 0 ttl (λ t. calls (StoreOne k v t exclusive)) (λ t. (tt, fit)))
-    by_kind (stored_kinds.Many ps) fit = may_any tt null (λ n. may 0 ttl (λ t. calls (StoreMany ps t exclusive))) (λ n. may_any 0 ttl (λ t. calls (StoreMany ps t exclusive)) (λ t. (tt, fit)))
+    by_kind (stored_kinds.One k) fit = needs_any any_value (λ v. may 0 ttl_in (λ t. call_form (StoreOne k v t exclusive))) (λ v. may_any 0 ttl_in (λ t. call_form (StoreOne k v t exclusive)) (λ t. (tt, fit)))
+    by_kind (stored_kinds.Many ps) fit = may_any tt null (λ n. may 0 ttl_in (λ t. call_form (StoreMany ps t exclusive))) (λ n. may_any 0 ttl_in (λ t. call_form (StoreMany ps t exclusive)) (λ t. (tt, fit)))
 
-pub asked_rows : (call : Asked → Call) → ((a : Asked) → AreKeys (keys_of_asked a) → FitsEffect (Calls (call a))) → FitsForm (needs asked_of (λ a. calls (call a)))
-asked_rows call fits = needs_fit asked_of (λ a. calls (call a)) (λ g a graph is. fits a (asked_fits g a graph is))
+pub asked_rows : (call : Asked → Call) → ((a : Asked) → AreKeys (keys_of_asked a) → FitsEffect (Calls (call a))) → FitsForm (needs asked_of (λ a. call_form (call a)))
+asked_rows call fits = needs_fit asked_of (λ a. call_form (call a)) (λ g a graph is. fits a (asked_fits g a graph is))
 
 pub fetch_row : (a : Asked) → AreKeys (keys_of_asked a) → FitsEffect (Calls (fetch_of a))
 fetch_row (asked_kinds.One k) fit = (tt, fit)
@@ -104,39 +104,39 @@ delete_row (asked_kinds.Many ks) fit = (tt, fit)
 
 pub count_row : (down : Bool) → FitsForm (count_form down)
 count_row down =
-    needs_fit key (λ k. may (pos 1) integer (λ n. may 0 ttl (λ t. calls (Inc k (step_by down n) t)))) (λ g k graph is.
-    may_any (pos 1) integer (λ n. may 0 ttl (λ t. calls (Inc k (step_by down n) t))) (λ n.
-    may_any 0 ttl (λ t. calls (Inc k (step_by down n) t)) (λ t. (tt, (key_fits g k graph is, tt)))))
+    needs_fit key (λ k. may (pos 1) integer (λ n. may 0 ttl_in (λ t. call_form (Inc k (step_by down n) t)))) (λ g k graph is.
+    may_any (pos 1) integer (λ n. may 0 ttl_in (λ t. call_form (Inc k (step_by down n) t))) (λ n.
+    may_any 0 ttl_in (λ t. call_form (Inc k (step_by down n) t)) (λ t. (tt, (key_fits g k graph is, tt)))))
 
 pub cas_row : FitsForm cas_form
 cas_row =
-    needs_fit key (λ k. needs integer (λ expect. needs integer (λ set. calls (Cas k expect set)))) (λ g k graph is.
-    needs_any integer (λ expect. needs integer (λ set. calls (Cas k expect set))) (λ expect.
-    needs_any integer (λ set. calls (Cas k expect set)) (λ set. (tt, (key_fits g k graph is, tt)))))
+    needs_fit key (λ k. needs integer (λ expect. needs integer (λ set. call_form (Cas k expect set)))) (λ g k graph is.
+    needs_any integer (λ expect. needs integer (λ set. call_form (Cas k expect set))) (λ expect.
+    needs_any integer (λ set. call_form (Cas k expect set)) (λ set. (tt, (key_fits g k graph is, tt)))))
 
 pub entry_row : FitsForm entry_form
 entry_row =
-    needs_fit key (λ k. Make (λ gen. may 0 ttl (λ t. calls (Entry (entry_round k t gen))))) (λ g k graph is. λ gen fit.
-    may_any 0 ttl (λ t. calls (Entry (entry_round k t gen))) (λ t. ((omega arith, omega (arith, fit.few)), (key_fits g k graph is, fit.keys))))
+    needs_fit key (λ k. Make (λ gen. may 0 ttl_in (λ t. call_form (Entry (entry_round k t gen))))) (λ g k graph is. λ gen fit.
+    may_any 0 ttl_in (λ t. call_form (Entry (entry_round k t gen))) (λ t. ((omega arith, omega (arith, fit.few)), (key_fits g k graph is, fit.keys))))
 
 pub key_info_row : FitsForm key_info_form
-key_info_row = needs_fit key (λ k. calls (KeyInfo k)) (λ g k graph is. (tt, (key_fits g k graph is, tt)))
+key_info_row = needs_fit key (λ k. call_form (KeyInfo k)) (λ g k graph is. (tt, (key_fits g k graph is, tt)))
 
 pub walk_row : FitsForm walk_form
 walk_row =
-    needs_any search_for (λ s. may all_fields fields (λ f. may usual_size chunk_size (λ n. may Active which_list (λ l. calls (Walk s f n l))))) (λ s.
-    may_any all_fields fields (λ f. may usual_size chunk_size (λ n. may Active which_list (λ l. calls (Walk s f n l)))) (λ f.
-    may_fit usual_size chunk_size (λ n. may Active which_list (λ l. calls (Walk s f n l)))
-    (may_any Active which_list (λ l. calls (Walk s f usual_size l)) (λ l. ((omega arith, omega arith), tt)))
-    (λ g n graph is. may_any Active which_list (λ l. calls (Walk s f n l)) (λ l. (size_fits g n is, tt)))))
+    needs_any search_for (λ s. may all_fields fields (λ f. may usual_size chunk_size (λ n. may Active which_list (λ l. call_form (Walk s f n l))))) (λ s.
+    may_any all_fields fields (λ f. may usual_size chunk_size (λ n. may Active which_list (λ l. call_form (Walk s f n l)))) (λ f.
+    may_fit usual_size chunk_size (λ n. may Active which_list (λ l. call_form (Walk s f n l)))
+    (may_any Active which_list (λ l. call_form (Walk s f usual_size l)) (λ l. ((omega arith, omega arith), tt)))
+    (λ g n graph is. may_any Active which_list (λ l. call_form (Walk s f n l)) (λ l. (size_fits g n is, tt)))))
 
 pub walk_delete_row : FitsForm walk_delete_form
 walk_delete_row =
-    needs_any search_for (λ s. may usual_size chunk_size (λ n. calls (WalkDelete s n))) (λ s.
-    may_fit usual_size chunk_size (λ n. calls (WalkDelete s n)) ((omega arith, omega arith), tt) (λ g n graph is. (size_fits g n is, tt)))
+    needs_any search_for (λ s. may usual_size chunk_size (λ n. call_form (WalkDelete s n))) (λ s.
+    may_fit usual_size chunk_size (λ n. call_form (WalkDelete s n)) ((omega arith, omega arith), tt) (λ g n graph is. (size_fits g n is, tt)))
 
 pub totals_row : FitsForm totals_form
-totals_row = needs_any search_for (λ s. may Active which_list (λ l. calls (Totals s l))) (λ s. may_any Active which_list (λ l. calls (Totals s l)) (λ l. (tt, tt)))
+totals_row = needs_any search_for (λ s. may Active which_list (λ l. call_form (Totals s l))) (λ s. may_any Active which_list (λ l. call_form (Totals s l)) (λ l. (tt, tt)))
 
 -- ---- words of pools
 

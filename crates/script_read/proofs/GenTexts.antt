@@ -13,7 +13,7 @@ use Rattle.notation.specs.Marks.{◌>>=◌, fail}
 use Rattle.notation.specs.Notation.{text_of, child_text}
 use Rattle.notation.specs.Reading.{reading_of}
 use Rattle.apcu_model.specs.Levels.{Generator}
-use Rattle.script_read.specs.Arguments.{key, ttl}
+use Rattle.script_read.specs.Arguments.{key, ttl_in}
 use Rattle.script_read.specs.GenParts.{literal_gen, entry_round}
 use Rattle.script_read.specs.Grammar.{WrittenGen, Literal, Nested, Limited, entry_word, gen_text, IsWrittenGen, entry_meant, gen_meant}
 use Rattle.script_read.specs.Reading.{chosen as found, choice_at, separator_at, limit_at, literal_at, entry_at, begins_entry, generator_at}
@@ -78,7 +78,7 @@ separator_takes mark (b ∷ bytes) rest e =
 pub record HasLimit (bytes : List ℕ) (t : ℕ) (rest : List ℕ) : Type 0 where
   pub value : List Kind
   pub graph : IsGraph value
-  pub meaning : ttl value ≡ Some t
+  pub meaning : ttl_in value ≡ Some t
   pub text : bytes ≡ codes " " ++ (text_of value ++ (codes ")" ++ rest))
 
 abbrev LimitTaken : List ℕ → ℕ → List ℕ → Type 0
@@ -88,16 +88,16 @@ limit_takes : ValuesTake → (bytes : List ℕ) (t : ℕ) (rest : List ℕ) → 
 unfolding limit_at
 limit_takes values [] t rest fits e = absurd cc
 limit_takes values (b ∷ bytes) t rest fits e =
-    elim (chosen (b == 41) (Ok (0, bytes)) (cond (b == 32) (choice_at ttl bytes >>= λ t. separator_at 41 t.1 >>= λ after. Ok (t.0, after)) (fail reasons.Separator (b ∷ bytes))) (Ok (t, rest)) e) [
+    elim (chosen (b == 41) (Ok (0, bytes)) (cond (b == 32) (choice_at ttl_in bytes >>= λ t. separator_at 41 t.1 >>= λ after. Ok (t.0, after)) (fail reasons.Separator (b ∷ bytes))) (Ok (t, rest)) e) [
       | inl p ↦
           let is : (0, bytes) ≡ (t, rest) = ok_is (0, bytes) (t, rest) p.1 in
           inl (sym (ap (λ (q : ℕ × List ℕ). q.0) is), ap₂ (λ (x : ℕ) (l : List ℕ). x ∷ l) (eqb-true b 41 p.0) (ap (λ (q : ℕ × List ℕ). q.1) is))
-      | inr p ↦ elim (chosen (b == 32) (choice_at ttl bytes >>= λ t. separator_at 41 t.1 >>= λ after. Ok (t.0, after)) (fail reasons.Separator (b ∷ bytes)) (Ok (t, rest)) p.1) [
+      | inr p ↦ elim (chosen (b == 32) (choice_at ttl_in bytes >>= λ t. separator_at 41 t.1 >>= λ after. Ok (t.0, after)) (fail reasons.Separator (b ∷ bytes)) (Ok (t, rest)) p.1) [
         | inl q ↦
-            let a = bind_ok (choice_at ttl bytes) (λ t. separator_at 41 t.1 >>= λ after. Ok (t.0, after)) (t, rest) q.1 in
+            let a = bind_ok (choice_at ttl_in bytes) (λ t. separator_at 41 t.1 >>= λ after. Ok (t.0, after)) (t, rest) q.1 in
             let d = bind_ok (separator_at 41 a.0.1) (λ after. Ok (a.0.0, after)) (t, rest) a.2 in
             let is : (a.0.0, d.0) ≡ (t, rest) = ok_is (a.0.0, d.0) (t, rest) d.2 in
-            let c = choice_takes values ttl bytes a.0.0 a.0.1 fits.1 a.1 in
+            let c = choice_takes values ttl_in bytes a.0.0 a.0.1 fits.1 a.1 in
             inr (record {
               value = c.value;
               graph = c.graph;
@@ -155,9 +155,9 @@ entry_parts k inner t gen e =
     let c = map_some (λ limit. entry_round a.0 limit b.0) t gen b.2 in
     record { bytes = a.0; made = b.0; limit = c.0; key_is = a.1; inner_is = b.1; limit_is = c.1; whole = c.2 }
 
-limit_again : ValuesAgain → (g : List Kind) (t : ℕ) (rest : List ℕ) → IsGraph g → ttl g ≡ Some t → limit_at (32 ∷ (text_of g ++ (41 ∷ rest))) ≡ Ok (t, rest)
+limit_again : ValuesAgain → (g : List Kind) (t : ℕ) (rest : List ℕ) → IsGraph g → ttl_in g ≡ Some t → limit_at (32 ∷ (text_of g ++ (41 ∷ rest))) ≡ Ok (t, rest)
 unfolding limit_at separator_at
-limit_again values g t rest graph means = ap (λ (r : Result (ℕ × List ℕ) Fault). r >>= λ t. separator_at 41 t.1 >>= λ after. Ok (t.0, after)) (choice_again values ttl g t (41 ∷ rest) graph means)
+limit_again values g t rest graph means = ap (λ (r : Result (ℕ × List ℕ) Fault). r >>= λ t. separator_at 41 t.1 >>= λ after. Ok (t.0, after)) (choice_again values ttl_in g t (41 ∷ rest) graph means)
 
 no_limit_again : (rest : List ℕ) → limit_at (41 ∷ rest) ≡ Ok (0, rest)
 unfolding limit_at
@@ -191,7 +191,7 @@ gens_again values (suc levels) (Nested k inner) gen rest are means =
     (ap (λ (l : List ℕ). generator_at (suc levels) (entry_word ++ l)) (nested_text (text_of k) (gen_text inner) rest)
     ∙ (entry_test levels (text_of k ++ (32 ∷ x)) ∙ entry_again (generator_at levels) (text_of k ++ (32 ∷ x)) x (41 ∷ rest) rest p.bytes p.made 0 first second (no_limit_again rest))) whole
 gens_again values (suc levels) (Limited k inner t) gen rest are means =
-    let p = entry_parts (key k) (gen_meant levels inner) (ttl t) gen means in
+    let p = entry_parts (key k) (gen_meant levels inner) (ttl_in t) gen means in
     let y = 32 ∷ (text_of t ++ (41 ∷ rest)) in
     let x = gen_text inner ++ y in
     let first = choice_again values key k p.bytes (32 ∷ x) are.0 p.key_is in
@@ -237,7 +237,7 @@ entry_made levels bytes inside last rest bs k m gen t graph key_is made gen_is w
 entry_made levels bytes inside last rest bs k m gen t graph key_is made gen_is word front (inr z) = record {
   written = Limited k m z.value;
   values = (graph, made, z.graph);
-  meaning = ap₂ (λ (x : Option (List ℕ)) (y : Option Generator). entry_meant x y (ttl z.value)) key_is gen_is ∙ ap (λ (t : Option ℕ). option_map (λ limit. entry_round bs limit gen) t) z.meaning;
+  meaning = ap₂ (λ (x : Option (List ℕ)) (y : Option Generator). entry_meant x y (ttl_in z.value)) key_is gen_is ∙ ap (λ (t : Option ℕ). option_map (λ limit. entry_round bs limit gen) t) z.meaning;
   text = word ∙ ap (λ (l : List ℕ). entry_word ++ l) (front ∙ (ap (λ (l : List ℕ). text_of k ++ (32 ∷ (gen_text m ++ l))) z.text ∙ sym (limited_text (text_of k) (gen_text m) (text_of z.value) rest)));
 }
 

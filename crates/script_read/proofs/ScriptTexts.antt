@@ -14,7 +14,7 @@ use Rattle.script_read.specs.declared.effect.Effect.{Effect}
 use Rattle.script_read.specs.declared.effect.Effect.TheVariants.{Sets, Begins, Calls}
 use Rattle.script_read.specs.declared.effect.Moments.{Moments}
 use Rattle.script_read.specs.declared.script.Step.{Step}
-use Rattle.script_read.specs.Clock.{at_first, request_at, step_at}
+use Rattle.script_read.specs.Clock.{at_first, request_moments, step_at}
 use Rattle.script_read.specs.Table.{Form, Refuse, table, form_in, form_of}
 use Rattle.script_read.specs.Grammar.{Argument, Line, argument_text, arguments_text, AreArguments, ends_line, line_text, script_text, effect_by, effect_of, steps_after, steps_of, Mean, most_workers, AreScripts}
 use Rattle.script_read.specs.Reading.{ends_word, word_len, line_word, behind_word, end_at, rest_at, worker_at, line_at, is_worker, Rest, with_effect, lines_at, scripts_at}
@@ -139,7 +139,7 @@ effect_again : (now : Moments) (lines begun : ℕ) (rest : List ℕ) (others : M
     → ((later : Moments) (more : List Step) → others later ≡ Some more → lines_at lines begun later rest ≡ rest_is more scripts)
     → steps_after now others e ≡ Some steps → with_effect now (λ later. lines_at lines begun later rest) e ≡ rest_is steps scripts
 effect_again now lines begun rest others (Sets u) steps scripts again means = again (record now { t = u }) steps means
-effect_again now lines begun rest others (Begins u) steps scripts again means = again (request_at u) steps means
+effect_again now lines begun rest others (Begins u) steps scripts again means = again (request_moments u) steps means
 effect_again now lines begun rest others (Calls call) steps scripts again means =
     let m = map_some (λ steps. step_at now call ∷ steps) (others now) steps means in
     ap (λ (r : Result Rest Fault). r >>= λ more. Ok (step_at now call ∷ more.0, more.1)) (again now m.0 m.1) ∙ ap (λ (s : List Step). rest_is s scripts) m.2
@@ -275,7 +275,7 @@ line_rest begun now later bytes rest e steps more scripts line after means = rec
 effect_takes : (lines begun : ℕ) (now : Moments) (bytes rest : List ℕ) (e : Effect) (steps : List Step) (scripts : List (List Step)) → IsLineTaken begun bytes e rest → ReadAfter lines begun rest
     → with_effect now (λ later. lines_at lines begun later rest) e ≡ rest_is steps scripts → IsRest begun now bytes steps scripts
 effect_takes lines begun now bytes rest (Sets u) steps scripts line after read = line_rest begun now (record now { t = u }) bytes rest (Sets u) steps steps scripts line (after (record now { t = u }) steps scripts read) (λ others is. is)
-effect_takes lines begun now bytes rest (Begins u) steps scripts line after read = line_rest begun now (request_at u) bytes rest (Begins u) steps steps scripts line (after (request_at u) steps scripts read) (λ others is. is)
+effect_takes lines begun now bytes rest (Begins u) steps scripts line after read = line_rest begun now (request_moments u) bytes rest (Begins u) steps steps scripts line (after (request_moments u) steps scripts read) (λ others is. is)
 effect_takes lines begun now bytes rest (Calls call) steps scripts line after read =
     let a = bind_ok (lines_at lines begun now rest) (λ more. Ok (step_at now call ∷ more.0, more.1)) (steps, scripts) read in
     let is : (step_at now call ∷ a.0.0, a.0.1) ≡ (steps, scripts) = ok_is (step_at now call ∷ a.0.0, a.0.1) (steps, scripts) a.2 in

@@ -12,10 +12,10 @@ use Rattle.script_read.specs.declared.effect.Moments.{Moments}
 use Rattle.script_read.specs.declared.script.Step.{Step}
 use Rattle.script_read.specs.Arguments.{truth, moment}
 use Rattle.script_read.specs.Calls.{IsRanged}
-use Rattle.script_read.specs.Clock.{at_first, request_at, step_at, timed_step, timed, all_timed}
+use Rattle.script_read.specs.Clock.{at_first, request_moments, step_at, timed_step, timed, all_timed}
 use Rattle.script_read.specs.Grammar.{Line, AreArguments, effect_of, steps_after, steps_of, Mean, AreScripts}
 use Rattle.script_read.specs.Ranges.{AreRanged, HasByteKeys, HaveByteKeys}
-use Rattle.script_read.specs.Table.{Form, Done, calls, timing, moment_form, fetch_of, exists_of, delete_of, info_form, table, form_in, form_of}
+use Rattle.script_read.specs.Table.{Form, Done, call_form, timing, moment_form, fetch_of, exists_of, delete_of, info_form, table, form_in, form_of}
 use Rattle.script_read.proofs.ResultBinds.{some_is, then_some, map_some}
 use Rattle.script_read.proofs.FormRanges.{FitsEffect, FitsForm, effect_fits, may_any, needs_any, stored_rows, asked_rows, fetch_row, exists_row, delete_row, count_row, cas_row, entry_row, key_info_row, walk_row, walk_delete_row, totals_row, get_row, set_row, pool_delete_row, clear_row, get_many_row, set_many_row, delete_many_row, has_row}
 
@@ -29,7 +29,7 @@ timing_row begins = needs_any moment (λ t. Done (timing begins t)) (λ t. by_ki
     by_kind false t = tt
 
 info_row : (info : Bool → Call) → ((limited : Bool) → FitsEffect (Calls (info limited))) → FitsForm (info_form info)
-info_row info fit = may_any false truth (λ limited. calls (info limited)) fit
+info_row info fit = may_any false truth (λ limited. call_form (info limited)) fit
 
 table_fits : AllByRecursion (λ (row : List ℕ × Form). FitsForm row.1) table
 table_fits = (
@@ -114,7 +114,7 @@ steps_fit m (line ∷ lines) steps are means =
     by_effect : (e : Effect) → FitsEffect e → ((later : Moments) (more : List Step) → steps_of later lines ≡ Some more → AllByRecursion FitsStep more)
         → steps_after m (λ later. steps_of later lines) e ≡ Some steps → AllByRecursion FitsStep steps
     by_effect (Sets u) fit others means = others (record m { t = u }) steps means
-    by_effect (Begins u) fit others means = others (request_at u) steps means
+    by_effect (Begins u) fit others means = others (request_moments u) steps means
     by_effect (Calls call) fit others means =
         let more = map_some (λ steps. step_at m call ∷ steps) (steps_of m lines) steps means in
         subst (AllByRecursion FitsStep) more.2 (fit, others m more.0 more.1)

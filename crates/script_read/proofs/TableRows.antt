@@ -13,8 +13,8 @@ use Rattle.script_read.specs.declared.effect.Effect.{Effect}
 use Rattle.script_read.specs.declared.effect.Effect.TheVariants.{Calls}
 use Rattle.script_read.specs.declared.choices.Stored.{Stored}
 use Rattle.script_read.specs.declared.choices.Stored.TheVariants as stores
-use Rattle.script_read.specs.Arguments.{any_value, key, integer, truth, null, ttl, moment, asked_of, stored, search_for, fields, all_fields, chunk_size, which_list}
-use Rattle.script_read.specs.Table.{Form, Done, Need, May, Make, Refuse, or_refuse, taken, needs, may, calls, timing, moment_form, store_one, store_many, store_by, fetch_of, exists_of, delete_of, step_by, count_form, cas_form, entry_form, key_info_form, info_form, usual_size, walk_form, walk_delete_form, totals_form, form_in, form_of}
+use Rattle.script_read.specs.Arguments.{any_value, key, integer, truth, null, ttl_in, moment, asked_of, stored, search_for, fields, all_fields, chunk_size, which_list}
+use Rattle.script_read.specs.Table.{Form, Done, Need, May, Make, Refuse, or_refuse, taken, needs, may, call_form, timing, moment_form, store_one, store_many, store_by, fetch_of, exists_of, delete_of, step_by, count_form, cas_form, entry_form, key_info_form, info_form, usual_size, walk_form, walk_delete_form, totals_form, form_in, form_of}
 use Rattle.script_read.specs.GenParts.{entry_round}
 use Rattle.script_read.specs.Grammar.{inner_levels}
 use Rattle.script_read.specs.Reading.{space_at, ends_here, end_at, chosen, choice_at, argument_at, optional_at, last_argument_at, generator_at, gen_argument_at, rest_at, line_word, behind_word, form_after, line_at}
@@ -113,18 +113,18 @@ unfolding rest_at
 moment_is begins last bytes = needs_is moment (λ t. Done (timing begins t)) last bytes (λ t. tt)
 
 pub store_one_is : (exclusive : Bool) (k last bytes : List ℕ) → rest_at (store_one exclusive k) last bytes
-    ≡ (argument_at any_value bytes >>= λ v. on (λ t. calls (StoreOne k v.0 t exclusive)) (optional_at 0 ttl v.1))
+    ≡ (argument_at any_value bytes >>= λ v. on (λ t. call_form (StoreOne k v.0 t exclusive)) (optional_at 0 ttl_in v.1))
 unfolding rest_at
 store_one_is exclusive k last bytes =
-    needs_is any_value (λ v. may 0 ttl (λ t. calls (StoreOne k v t exclusive))) last bytes (λ v. tt)
-    ∙ then_is (argument_at any_value bytes) _ _ (λ v. may_is 0 ttl (λ t. calls (StoreOne k v.0 t exclusive)) [] v.1 (λ t. tt))
+    needs_is any_value (λ v. may 0 ttl_in (λ t. call_form (StoreOne k v t exclusive))) last bytes (λ v. tt)
+    ∙ then_is (argument_at any_value bytes) _ _ (λ v. may_is 0 ttl_in (λ t. call_form (StoreOne k v.0 t exclusive)) [] v.1 (λ t. tt))
 
 pub store_many_is : (exclusive : Bool) (ps : List (List ℕ × List Kind)) (last bytes : List ℕ) → rest_at (store_many exclusive ps) last bytes
-    ≡ (optional_at tt null bytes >>= λ n. on (λ t. calls (StoreMany ps t exclusive)) (optional_at 0 ttl n.1))
+    ≡ (optional_at tt null bytes >>= λ n. on (λ t. call_form (StoreMany ps t exclusive)) (optional_at 0 ttl_in n.1))
 unfolding rest_at
 store_many_is exclusive ps last bytes =
-    may_is tt null (λ n. may 0 ttl (λ t. calls (StoreMany ps t exclusive))) last bytes (λ n. tt)
-    ∙ then_is (optional_at tt null bytes) _ _ (λ n. may_is 0 ttl (λ t. calls (StoreMany ps t exclusive)) [] n.1 (λ t. tt))
+    may_is tt null (λ n. may 0 ttl_in (λ t. call_form (StoreMany ps t exclusive))) last bytes (λ n. tt)
+    ∙ then_is (optional_at tt null bytes) _ _ (λ n. may_is 0 ttl_in (λ t. call_form (StoreMany ps t exclusive)) [] n.1 (λ t. tt))
 
 by_goes : (exclusive : Bool) (s : Stored) → Goes (store_by exclusive s)
 by_goes exclusive (stores.One k) = tt
@@ -147,80 +147,80 @@ effect_last {A = A} (Ok x) effect = by_end (end_at x.1)
 
 pub fetch_is : (last bytes : List ℕ) → rest_at (form_of (codes "apcu_fetch")) last bytes ≡ (last_argument_at asked_of bytes >>= λ a. Ok (Calls (fetch_of a.0), a.1))
 unfolding form_in rest_at
-fetch_is last bytes = needs_is asked_of (λ a. calls (fetch_of a)) last bytes (λ a. tt) ∙ effect_last (argument_at asked_of bytes) (λ a. Calls (fetch_of a))
+fetch_is last bytes = needs_is asked_of (λ a. call_form (fetch_of a)) last bytes (λ a. tt) ∙ effect_last (argument_at asked_of bytes) (λ a. Calls (fetch_of a))
 
 pub exists_is : (last bytes : List ℕ) → rest_at (form_of (codes "apcu_exists")) last bytes ≡ (last_argument_at asked_of bytes >>= λ a. Ok (Calls (exists_of a.0), a.1))
 unfolding form_in rest_at
-exists_is last bytes = needs_is asked_of (λ a. calls (exists_of a)) last bytes (λ a. tt) ∙ effect_last (argument_at asked_of bytes) (λ a. Calls (exists_of a))
+exists_is last bytes = needs_is asked_of (λ a. call_form (exists_of a)) last bytes (λ a. tt) ∙ effect_last (argument_at asked_of bytes) (λ a. Calls (exists_of a))
 
 pub delete_is : (last bytes : List ℕ) → rest_at (form_of (codes "apcu_delete")) last bytes ≡ (last_argument_at asked_of bytes >>= λ a. Ok (Calls (delete_of a.0), a.1))
 unfolding form_in rest_at
-delete_is last bytes = needs_is asked_of (λ a. calls (delete_of a)) last bytes (λ a. tt) ∙ effect_last (argument_at asked_of bytes) (λ a. Calls (delete_of a))
+delete_is last bytes = needs_is asked_of (λ a. call_form (delete_of a)) last bytes (λ a. tt) ∙ effect_last (argument_at asked_of bytes) (λ a. Calls (delete_of a))
 
 -- ---- counters
 
 pub count_is : (down : Bool) (last bytes : List ℕ) → rest_at (count_form down) last bytes
-    ≡ (argument_at key bytes >>= λ k. optional_at (pos 1) integer k.1 >>= λ n. on (λ t. calls (Inc k.0 (step_by down n.0) t)) (optional_at 0 ttl n.1))
+    ≡ (argument_at key bytes >>= λ k. optional_at (pos 1) integer k.1 >>= λ n. on (λ t. call_form (Inc k.0 (step_by down n.0) t)) (optional_at 0 ttl_in n.1))
 unfolding rest_at
 count_is down last bytes =
-    needs_is key (λ k. may (pos 1) integer (λ n. may 0 ttl (λ t. calls (Inc k (step_by down n) t)))) last bytes (λ k. tt)
-    ∙ then_is (argument_at key bytes) _ _ (λ k. may_is (pos 1) integer (λ n. may 0 ttl (λ t. calls (Inc k.0 (step_by down n) t))) [] k.1 (λ n. tt)
-    ∙ then_is (optional_at (pos 1) integer k.1) _ _ (λ n. may_is 0 ttl (λ t. calls (Inc k.0 (step_by down n.0) t)) [] n.1 (λ t. tt)))
+    needs_is key (λ k. may (pos 1) integer (λ n. may 0 ttl_in (λ t. call_form (Inc k (step_by down n) t)))) last bytes (λ k. tt)
+    ∙ then_is (argument_at key bytes) _ _ (λ k. may_is (pos 1) integer (λ n. may 0 ttl_in (λ t. call_form (Inc k.0 (step_by down n) t))) [] k.1 (λ n. tt)
+    ∙ then_is (optional_at (pos 1) integer k.1) _ _ (λ n. may_is 0 ttl_in (λ t. call_form (Inc k.0 (step_by down n.0) t)) [] n.1 (λ t. tt)))
 
 pub cas_is : (last bytes : List ℕ) → rest_at cas_form last bytes
     ≡ (argument_at key bytes >>= λ k. argument_at integer k.1 >>= λ expect. argument_at integer expect.1 >>= ended (λ set. Calls (Cas k.0 expect.0 set)))
 unfolding rest_at
 cas_is last bytes =
-    needs_is key (λ k. needs integer (λ expect. needs integer (λ set. calls (Cas k expect set)))) last bytes (λ k. tt)
-    ∙ then_is (argument_at key bytes) _ _ (λ k. needs_is integer (λ expect. needs integer (λ set. calls (Cas k.0 expect set))) [] k.1 (λ expect. tt)
-    ∙ then_is (argument_at integer k.1) _ _ (λ expect. needs_is integer (λ set. calls (Cas k.0 expect.0 set)) [] expect.1 (λ set. tt)))
+    needs_is key (λ k. needs integer (λ expect. needs integer (λ set. call_form (Cas k expect set)))) last bytes (λ k. tt)
+    ∙ then_is (argument_at key bytes) _ _ (λ k. needs_is integer (λ expect. needs integer (λ set. call_form (Cas k.0 expect set))) [] k.1 (λ expect. tt)
+    ∙ then_is (argument_at integer k.1) _ _ (λ expect. needs_is integer (λ set. call_form (Cas k.0 expect.0 set)) [] expect.1 (λ set. tt)))
 
 -- ---- entries and information
 
 pub entry_is : (last bytes : List ℕ) → rest_at entry_form last bytes
-    ≡ (argument_at key bytes >>= λ k. gen_argument_at k.1 >>= λ gen. optional_at 0 ttl gen.1 >>= ended (λ t. Calls (Entry (entry_round k.0 t gen.0))))
+    ≡ (argument_at key bytes >>= λ k. gen_argument_at k.1 >>= λ gen. optional_at 0 ttl_in gen.1 >>= ended (λ t. Calls (Entry (entry_round k.0 t gen.0))))
 unfolding rest_at
 entry_is last bytes =
-    needs_is key (λ k. Make (λ gen. may 0 ttl (λ t. calls (Entry (entry_round k t gen))))) last bytes (λ k. tt)
-    ∙ then_is (argument_at key bytes) _ _ (λ k. make_is (λ gen. may 0 ttl (λ t. calls (Entry (entry_round k.0 t gen)))) [] k.1 (λ gen. tt)
-    ∙ then_is (gen_argument_at k.1) _ _ (λ gen. may_is 0 ttl (λ t. calls (Entry (entry_round k.0 t gen.0))) [] gen.1 (λ t. tt)))
+    needs_is key (λ k. Make (λ gen. may 0 ttl_in (λ t. call_form (Entry (entry_round k t gen))))) last bytes (λ k. tt)
+    ∙ then_is (argument_at key bytes) _ _ (λ k. make_is (λ gen. may 0 ttl_in (λ t. call_form (Entry (entry_round k.0 t gen)))) [] k.1 (λ gen. tt)
+    ∙ then_is (gen_argument_at k.1) _ _ (λ gen. may_is 0 ttl_in (λ t. call_form (Entry (entry_round k.0 t gen.0))) [] gen.1 (λ t. tt)))
 
-pub key_info_is : (last bytes : List ℕ) → rest_at key_info_form last bytes ≡ on (λ k. calls (KeyInfo k)) (argument_at key bytes)
+pub key_info_is : (last bytes : List ℕ) → rest_at key_info_form last bytes ≡ on (λ k. call_form (KeyInfo k)) (argument_at key bytes)
 unfolding rest_at
-key_info_is last bytes = needs_is key (λ k. calls (KeyInfo k)) last bytes (λ k. tt)
+key_info_is last bytes = needs_is key (λ k. call_form (KeyInfo k)) last bytes (λ k. tt)
 
-pub cache_info_is : (last bytes : List ℕ) → rest_at (info_form CacheInfo) last bytes ≡ on (λ limited. calls (CacheInfo limited)) (optional_at false truth bytes)
+pub cache_info_is : (last bytes : List ℕ) → rest_at (info_form CacheInfo) last bytes ≡ on (λ limited. call_form (CacheInfo limited)) (optional_at false truth bytes)
 unfolding rest_at
-cache_info_is last bytes = may_is false truth (λ limited. calls (CacheInfo limited)) last bytes (λ limited. tt)
+cache_info_is last bytes = may_is false truth (λ limited. call_form (CacheInfo limited)) last bytes (λ limited. tt)
 
-pub sma_info_is : (last bytes : List ℕ) → rest_at (info_form SmaInfo) last bytes ≡ on (λ limited. calls (SmaInfo limited)) (optional_at false truth bytes)
+pub sma_info_is : (last bytes : List ℕ) → rest_at (info_form SmaInfo) last bytes ≡ on (λ limited. call_form (SmaInfo limited)) (optional_at false truth bytes)
 unfolding rest_at
-sma_info_is last bytes = may_is false truth (λ limited. calls (SmaInfo limited)) last bytes (λ limited. tt)
+sma_info_is last bytes = may_is false truth (λ limited. call_form (SmaInfo limited)) last bytes (λ limited. tt)
 
 -- ---- iterators
 
 pub walk_is : (last bytes : List ℕ) → rest_at walk_form last bytes
-    ≡ (argument_at search_for bytes >>= λ s. optional_at all_fields fields s.1 >>= λ f. optional_at usual_size chunk_size f.1 >>= λ n. on (λ l. calls (Walk s.0 f.0 n.0 l)) (optional_at Active which_list n.1))
+    ≡ (argument_at search_for bytes >>= λ s. optional_at all_fields fields s.1 >>= λ f. optional_at usual_size chunk_size f.1 >>= λ n. on (λ l. call_form (Walk s.0 f.0 n.0 l)) (optional_at Active which_list n.1))
 unfolding rest_at
 walk_is last bytes =
-    needs_is search_for (λ s. may all_fields fields (λ f. may usual_size chunk_size (λ n. may Active which_list (λ l. calls (Walk s f n l))))) last bytes (λ s. tt)
-    ∙ then_is (argument_at search_for bytes) _ _ (λ s. may_is all_fields fields (λ f. may usual_size chunk_size (λ n. may Active which_list (λ l. calls (Walk s.0 f n l)))) [] s.1 (λ f. tt)
-    ∙ then_is (optional_at all_fields fields s.1) _ _ (λ f. may_is usual_size chunk_size (λ n. may Active which_list (λ l. calls (Walk s.0 f.0 n l))) [] f.1 (λ n. tt)
-    ∙ then_is (optional_at usual_size chunk_size f.1) _ _ (λ n. may_is Active which_list (λ l. calls (Walk s.0 f.0 n.0 l)) [] n.1 (λ l. tt))))
+    needs_is search_for (λ s. may all_fields fields (λ f. may usual_size chunk_size (λ n. may Active which_list (λ l. call_form (Walk s f n l))))) last bytes (λ s. tt)
+    ∙ then_is (argument_at search_for bytes) _ _ (λ s. may_is all_fields fields (λ f. may usual_size chunk_size (λ n. may Active which_list (λ l. call_form (Walk s.0 f n l)))) [] s.1 (λ f. tt)
+    ∙ then_is (optional_at all_fields fields s.1) _ _ (λ f. may_is usual_size chunk_size (λ n. may Active which_list (λ l. call_form (Walk s.0 f.0 n l))) [] f.1 (λ n. tt)
+    ∙ then_is (optional_at usual_size chunk_size f.1) _ _ (λ n. may_is Active which_list (λ l. call_form (Walk s.0 f.0 n.0 l)) [] n.1 (λ l. tt))))
 
 pub walk_delete_is : (last bytes : List ℕ) → rest_at walk_delete_form last bytes
-    ≡ (argument_at search_for bytes >>= λ s. on (λ n. calls (WalkDelete s.0 n)) (optional_at usual_size chunk_size s.1))
+    ≡ (argument_at search_for bytes >>= λ s. on (λ n. call_form (WalkDelete s.0 n)) (optional_at usual_size chunk_size s.1))
 unfolding rest_at
 walk_delete_is last bytes =
-    needs_is search_for (λ s. may usual_size chunk_size (λ n. calls (WalkDelete s n))) last bytes (λ s. tt)
-    ∙ then_is (argument_at search_for bytes) _ _ (λ s. may_is usual_size chunk_size (λ n. calls (WalkDelete s.0 n)) [] s.1 (λ n. tt))
+    needs_is search_for (λ s. may usual_size chunk_size (λ n. call_form (WalkDelete s n))) last bytes (λ s. tt)
+    ∙ then_is (argument_at search_for bytes) _ _ (λ s. may_is usual_size chunk_size (λ n. call_form (WalkDelete s.0 n)) [] s.1 (λ n. tt))
 
 pub totals_is : (last bytes : List ℕ) → rest_at totals_form last bytes
-    ≡ (argument_at search_for bytes >>= λ s. on (λ l. calls (Totals s.0 l)) (optional_at Active which_list s.1))
+    ≡ (argument_at search_for bytes >>= λ s. on (λ l. call_form (Totals s.0 l)) (optional_at Active which_list s.1))
 unfolding rest_at
 totals_is last bytes =
-    needs_is search_for (λ s. may Active which_list (λ l. calls (Totals s l))) last bytes (λ s. tt)
-    ∙ then_is (argument_at search_for bytes) _ _ (λ s. may_is Active which_list (λ l. calls (Totals s.0 l)) [] s.1 (λ l. tt))
+    needs_is search_for (λ s. may Active which_list (λ l. call_form (Totals s l))) last bytes (λ s. tt)
+    ∙ then_is (argument_at search_for bytes) _ _ (λ s. may_is Active which_list (λ l. call_form (Totals s.0 l)) [] s.1 (λ l. tt))
 
 -- ---- stores
 
@@ -237,8 +237,8 @@ moved view r a b e h = subst (λ c. GivesItem view r c) (sym e) h
 
 -- a call that counts was read, with its step
 pub count_goes : {X : Type 0} (view : X → Effect × List ℕ) (r : Result X Stop) (k : List ℕ) (n m : ℤ) (t : ℕ) (rest : List ℕ) (whole : Result (Effect × List ℕ) Fault)
-    → whole ≡ rest_at (calls (Inc k n t)) [] rest → GivesItem view r (rest_at (calls (Inc k m t)) [] rest) → m ≡ n → GivesItem view r whole
-count_goes view r k n m t rest whole is h same = moved view r whole (rest_at (calls (Inc k m t)) [] rest) (is ∙ ap (λ (x : ℤ). rest_at (calls (Inc k x t)) [] rest) (sym same)) h
+    → whole ≡ rest_at (call_form (Inc k n t)) [] rest → GivesItem view r (rest_at (call_form (Inc k m t)) [] rest) → m ≡ n → GivesItem view r whole
+count_goes view r k n m t rest whole is h same = moved view r whole (rest_at (call_form (Inc k m t)) [] rest) (is ∙ ap (λ (x : ℤ). rest_at (call_form (Inc k x t)) [] rest) (sym same)) h
 
 -- ---- the first line
 

@@ -62,7 +62,7 @@ from_to low high (pos n) = if nat_le low n && nat_le n high then Some n else Non
 from_to low high (negsuc n) = None
 
 -- a limit of time, in seconds
-abbrev pub ttl : List Kind → Option ℕ
+abbrev pub ttl_in : List Kind → Option ℕ
 ttl g = option_and_then (from_to 0 4294967295) (integer g)
 
 abbrev pub moment : List Kind → Option ℕ
@@ -84,13 +84,13 @@ abbrev pub members : List Kind → Option (List (Key × Child))
 members (kinds.Array ms ∷ places) = Some ms
 members _ = None
 
-abbrev pub string_of : Kind → Option (List ℕ)
-string_of (kinds.Str bytes) = Some bytes
-string_of _ = None
+abbrev pub string_of_kind : Kind → Option (List ℕ)
+string_of_kind (kinds.Str bytes) = Some bytes
+string_of_kind _ = None
 
 -- the string that is written there
 abbrev pub member_string : List Kind → Child → Option (List ℕ)
-member_string g (Own x) = option_and_then string_of (kind_at g x)
+member_string g (Own x) = option_and_then string_of_kind (kind_at g x)
 member_string g (Back x) = None
 
 -- strings, all written there; their own keys are not looked at

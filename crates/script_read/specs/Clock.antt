@@ -13,8 +13,8 @@ abbrev pub at_first : Moments
 at_first = record { t = 0; start = 0 }
 
 -- a request's start is a moment too
-abbrev pub request_at : ℕ → Moments
-request_at u = record { t = u; start = u }
+abbrev pub request_moments : ℕ → Moments
+request_moments u = record { t = u; start = u }
 
 abbrev pub step_at : Moments → Call → Step
 step_at m call = record { t = m.t; start = m.start; call = call }

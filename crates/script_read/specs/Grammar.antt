@@ -11,8 +11,8 @@ use Rattle.script_read.specs.declared.effect.Effect.{Effect}
 use Rattle.script_read.specs.declared.effect.Effect.TheVariants.{Sets, Begins, Calls}
 use Rattle.script_read.specs.declared.effect.Moments.{Moments}
 use Rattle.script_read.specs.declared.script.Step.{Step}
-use Rattle.script_read.specs.Arguments.{key, ttl}
-use Rattle.script_read.specs.Clock.{at_first, request_at, step_at}
+use Rattle.script_read.specs.Arguments.{key, ttl_in}
+use Rattle.script_read.specs.Clock.{at_first, request_moments, step_at}
 use Rattle.script_read.specs.GenParts.{literal_gen, entry_round}
 use Rattle.script_read.specs.Table.{Form, Done, Need, May, Make, form_of}
 
@@ -98,7 +98,7 @@ gen_meant zero (Nested k inner) = None
 gen_meant (suc levels) (Nested k inner) = entry_meant (key k) (gen_meant levels inner) (Some 0)
 gen_meant zero (Limited k inner t) = None
 gen_meant (suc levels) (Limited k inner t) =
-    entry_meant (key k) (gen_meant levels inner) (ttl t)
+    entry_meant (key k) (gen_meant levels inner) (ttl_in t)
 
 -- how many entries may lie inside the line's own
 abbrev pub inner_levels : ℕ
@@ -121,7 +121,7 @@ effect_of line = effect_by (form_of line.word) line.arguments
 -- request, leaves no step.
 abbrev pub steps_after : Moments → (Moments → Option (List Step)) → Effect → Option (List Step)
 steps_after m others (Sets u) = others (record m { t = u })
-steps_after m others (Begins u) = others (request_at u)
+steps_after m others (Begins u) = others (request_moments u)
 steps_after m others (Calls call) = option_map (λ steps. step_at m call ∷ steps) (others m)
 
 abbrev pub steps_of : Moments → List Line → Option (List Step)

@@ -14,8 +14,8 @@ use Rattle.script_read.specs.declared.effect.Effect.{Effect}
 use Rattle.script_read.specs.declared.effect.Effect.TheVariants.{Sets, Begins, Calls}
 use Rattle.script_read.specs.declared.effect.Moments.{Moments}
 use Rattle.script_read.specs.declared.script.Step.{Step}
-use Rattle.script_read.specs.Arguments.{key, integer, ttl}
-use Rattle.script_read.specs.Clock.{at_first, request_at, step_at}
+use Rattle.script_read.specs.Arguments.{key, integer, ttl_in}
+use Rattle.script_read.specs.Clock.{at_first, request_moments, step_at}
 use Rattle.script_read.specs.GenParts.{literal_gen, entry_round}
 use Rattle.script_read.specs.Table.{Form, Done, Need, May, Make, Refuse, form_of}
 use Rattle.script_read.specs.Grammar.{entry_word, inner_levels, most_workers}
@@ -107,7 +107,7 @@ limit_at [] = fail reasons.End []
 limit_at (b ∷ rest) =
     if b == 41 then Ok (0, rest)
     else if b == 32
-    then (choice_at ttl rest >>= λ t. separator_at 41 t.1 >>= λ after. Ok (t.0, after))
+    then (choice_at ttl_in rest >>= λ t. separator_at 41 t.1 >>= λ after. Ok (t.0, after))
     else fail reasons.Separator (b ∷ rest)
 
 -- a value in parentheses
@@ -189,7 +189,7 @@ Rest = List Step × List (List Step)
 
 abbrev pub with_effect : Moments → (Moments → Result Rest Fault) → Effect → Result Rest Fault
 with_effect m others (Sets u) = others (record m { t = u })
-with_effect m others (Begins u) = others (request_at u)
+with_effect m others (Begins u) = others (request_moments u)
 with_effect m others (Calls call) = others m >>= λ more. Ok (step_at m call ∷ more.0, more.1)
 
 -- The lines up to the end of the bytes, at most so many, where so many scripts have begun, from

@@ -22,7 +22,7 @@ use Rattle.script_read.specs.declared.choices.Asked.{Asked}
 use Rattle.script_read.specs.declared.choices.Asked.TheVariants as asks
 use Rattle.script_read.specs.declared.choices.Stored.{Stored}
 use Rattle.script_read.specs.declared.choices.Stored.TheVariants as stores
-use Rattle.script_read.specs.Arguments.{any_value, key, integer, truth, null, ttl, moment}
+use Rattle.script_read.specs.Arguments.{any_value, key, integer, truth, null, ttl_in, moment}
 use Rattle.script_read.specs.Arguments.{asked_of, stored, search_for, fields, all_fields}
 use Rattle.script_read.specs.Arguments.{chunk_size, which_list, pool_name, own_key, own_keys}
 use Rattle.script_read.specs.Arguments.{own_pairs, own_ttl, null_value}
@@ -63,8 +63,8 @@ needs choose next = Need (taken choose next)
 abbrev pub may : {A : Type 0} → A → (List Kind → Option A) → (A → Form) → Form
 may default choose next = May (next default) (taken choose next)
 
-abbrev pub calls : Call → Form
-calls call = Done (Calls call)
+abbrev pub call_form : Call → Form
+call_form call = Done (Calls call)
 
 -- ---- words
 
@@ -78,11 +78,13 @@ moment_form begins = needs moment (λ t. Done (timing begins t))
 
 -- a key's value, and a limit of time
 abbrev pub store_one : Bool → List ℕ → Form
-store_one exclusive k = needs any_value (λ v. may 0 ttl (λ t. calls (StoreOne k v t exclusive)))
+store_one exclusive k =
+    needs any_value (λ v. may 0 ttl_in (λ t. call_form (StoreOne k v t exclusive)))
 
 -- behind an array of keys with their values: a null, and a limit of time
 abbrev pub store_many : Bool → List (List ℕ × List Kind) → Form
-store_many exclusive ps = may tt null (λ n. may 0 ttl (λ t. calls (StoreMany ps t exclusive)))
+store_many exclusive ps =
+    may tt null (λ n. may 0 ttl_in (λ t. call_form (StoreMany ps t exclusive)))
 
 -- the first argument decides what follows it
 abbrev pub store_by : Bool → Stored → Form
@@ -109,24 +111,25 @@ step_by true n = int_wrapping_neg w64 n
 -- the step, 1 where it is left out, and a limit of time
 abbrev pub count_form : Bool → Form
 count_form down =
-    needs key (λ k. may (pos 1) integer (λ n. may 0 ttl (λ t. calls (Inc k (step_by down n) t))))
+    needs key (λ k. may (pos 1) integer (λ n.
+    may 0 ttl_in (λ t. call_form (Inc k (step_by down n) t))))
 
 -- the integer that is expected, and the one that is set
 abbrev pub cas_form : Form
 cas_form =
-    needs key (λ k. needs integer (λ expect. needs integer (λ set. calls (Cas k expect set))))
+    needs key (λ k. needs integer (λ expect. needs integer (λ set. call_form (Cas k expect set))))
 
 -- a key, what gives the value where no live row has it, and a limit of time
 abbrev pub entry_form : Form
 entry_form =
-    needs key (λ k. Make (λ gen. may 0 ttl (λ t. calls (Entry (entry_round k t gen)))))
+    needs key (λ k. Make (λ gen. may 0 ttl_in (λ t. call_form (Entry (entry_round k t gen)))))
 
 abbrev pub key_info_form : Form
-key_info_form = needs key (λ k. calls (KeyInfo k))
+key_info_form = needs key (λ k. call_form (KeyInfo k))
 
 -- whether the lists are left out, which they are not where nothing is said
 abbrev pub info_form : (Bool → Call) → Form
-info_form info = may false truth (λ limited. calls (info limited))
+info_form info = may false truth (λ limited. call_form (info limited))
 
 -- how many items a step of a walk has at least, where it is left out
 abbrev pub usual_size : ℕ
@@ -137,19 +140,19 @@ usual_size = 100
 abbrev pub walk_form : Form
 walk_form =
     needs search_for (λ s. may all_fields fields (λ f.
-    may usual_size chunk_size (λ n. may Active which_list (λ l. calls (Walk s f n l)))))
+    may usual_size chunk_size (λ n. may Active which_list (λ l. call_form (Walk s f n l)))))
 
 abbrev pub walk_delete_form : Form
 walk_delete_form =
-    needs search_for (λ s. may usual_size chunk_size (λ n. calls (WalkDelete s n)))
+    needs search_for (λ s. may usual_size chunk_size (λ n. call_form (WalkDelete s n)))
 
 abbrev pub totals_form : Form
-totals_form = needs search_for (λ s. may Active which_list (λ l. calls (Totals s l)))
+totals_form = needs search_for (λ s. may Active which_list (λ l. call_form (Totals s l)))
 
 -- ---- words of pools: the pool's name comes first
 
 abbrev pub pool_call : List ℕ → PoolAsk → Form
-pool_call p ask = calls (Pool (record { pool = p; ask = ask }))
+pool_call p ask = call_form (Pool (record { pool = p; ask = ask }))
 
 -- without a time to live a value is kept for ever
 abbrev pub set_ask : List ℕ → List Kind → Option ℤ → PoolAsk
@@ -203,15 +206,15 @@ table =
     ∷ (codes "request", moment_form true)
     ∷ (codes "apcu_store", needs stored (store_by false))
     ∷ (codes "apcu_add", needs stored (store_by true))
-    ∷ (codes "apcu_fetch", needs asked_of (λ a. calls (fetch_of a)))
-    ∷ (codes "apcu_exists", needs asked_of (λ a. calls (exists_of a)))
-    ∷ (codes "apcu_delete", needs asked_of (λ a. calls (delete_of a)))
+    ∷ (codes "apcu_fetch", needs asked_of (λ a. call_form (fetch_of a)))
+    ∷ (codes "apcu_exists", needs asked_of (λ a. call_form (exists_of a)))
+    ∷ (codes "apcu_delete", needs asked_of (λ a. call_form (delete_of a)))
     ∷ (codes "apcu_inc", count_form false)
     ∷ (codes "apcu_dec", count_form true)
     ∷ (codes "apcu_cas", cas_form)
     ∷ (codes "apcu_entry", entry_form)
-    ∷ (codes "apcu_clear_cache", calls Clear)
-    ∷ (codes "apcu_enabled", calls Enabled)
+    ∷ (codes "apcu_clear_cache", call_form Clear)
+    ∷ (codes "apcu_enabled", call_form Enabled)
     ∷ (codes "apcu_key_info", key_info_form)
     ∷ (codes "apcu_cache_info", info_form CacheInfo)
     ∷ (codes "apcu_sma_info", info_form SmaInfo)

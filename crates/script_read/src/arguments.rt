@@ -8,7 +8,7 @@ ghost use Rattle.notation.specs.Reading.{reading_of};
 ghost use Rattle.notation.specs.Plain.{begins_string};
 ghost use Rattle.apcu_model.specs.declared.searching.List.TheVariants.{Active};
 ghost use Rattle.script_read.specs.Calls.{last_moment, most_items};
-ghost use Rattle.script_read.specs.Arguments.{any_value, key, integer, truth, null, ttl, moment};
+ghost use Rattle.script_read.specs.Arguments.{any_value, key, integer, truth, null, ttl_in, moment};
 ghost use Rattle.script_read.specs.Arguments.{asked_of, stored, search_for, fields, all_fields};
 ghost use Rattle.script_read.specs.Arguments.{chunk_size, which_list};
 ghost use Rattle.script_read.specs.Table.{usual_size};
@@ -234,7 +234,7 @@ pub(crate) fn moment_argument(alloc: Global, bytes: &[u8]) -> Result<(u64, &[u8]
 
 // A limit of time, behind the space before it.
 pub(crate) fn ttl_choice(alloc: Global, argument: &[u8]) -> Result<(u32, &[u8]), Stop>
-    ensures read { GivesItem (λ x. (x.0, x.1.now)) result (choice_at ttl argument.now) }
+    ensures read { GivesItem (λ x. (x.0, x.1.now)) result (choice_at ttl_in argument.now) }
     ensures no_more { IfOk result (λ x. length x.1.now ≤ length argument.now) }
 {
     let (number, rest) = number_in(alloc, argument)?;
@@ -246,7 +246,7 @@ pub(crate) fn ttl_choice(alloc: Global, argument: &[u8]) -> Result<(u32, &[u8]),
 
 // A limit of time, or 0 where the line ends.
 pub(crate) fn ttl_argument(alloc: Global, bytes: &[u8]) -> Result<(u32, &[u8]), Stop>
-    ensures read { GivesItem (λ x. (x.0, x.1.now)) result (optional_at 0 ttl bytes.now) }
+    ensures read { GivesItem (λ x. (x.0, x.1.now)) result (optional_at 0 ttl_in bytes.now) }
     ensures no_more { IfOk result (λ x. length x.1.now ≤ length bytes.now) }
 {
     if ends_here(bytes) {

@@ -2,7 +2,7 @@
 
 ghost use Rattle.std.specs.Prelude.{◌≡◌, ℕ, ◌≤◌, ◌<◌, List, length, IfOk, OnOk};
 ghost use Rattle.script_read.specs.Calls.{HasRanges};
-ghost use Rattle.script_read.specs.Table.{calls, timing, moment_form};
+ghost use Rattle.script_read.specs.Table.{call_form, timing, moment_form};
 ghost use Rattle.script_read.specs.Grammar.{most_workers};
 ghost use Rattle.script_read.specs.Reading.{ends_word, word_len, line_word, behind_word, rest_at};
 ghost use Rattle.script_read.specs.Reading.{worker_at, line_at};
@@ -54,7 +54,7 @@ fn moment(alloc: Global, begins: bool, bytes: &[u8]) -> Result<(Effect, &[u8]), 
 pub(crate) fn bare(call: Call, bytes: &[u8]) -> Result<(Effect, &[u8]), Stop>
     requires { HasRanges call }
     ensures read { (last : List ℕ) → GivesItem (λ x. (x.0, x.1.now)) result
-        (rest_at (calls call) last bytes.now) }
+        (rest_at (call_form call) last bytes.now) }
     ensures fewer { IfOk result (λ x. length x.1.now < length bytes.now) }
     ensures range { IfOk result (λ x. IsInRange x.0) }
 {

@@ -41,7 +41,7 @@ use Rattle.pin_table.specs.Pins.{MayPin, content_of}
 use Rattle.pin_table.specs.Events.{event}
 use Rattle.value_image.specs.Laws.{ImagesAreRuns}
 use Rattle.shared_cache.specs.Laws.{LockLaws}
-use Rattle.shared_cache.specs.PinnedFetches.{graph_of}
+use Rattle.shared_cache.specs.PinnedFetches.{scalar_graph}
 use Rattle.shared_cache.specs.TiedWindows.{IsTied, AreTied}
 
 found_there : {X : Type 0} (p : X → Bool) (xs : List X) (x : X) → find p xs ≡ Some x → Contains xs x
@@ -100,32 +100,32 @@ alone : (ks : List Kind) (kind : Kind) → Some 2 ≡ Some (length (kind ∷ ks)
 alone [] kind e = refl
 alone (x ∷ xs) kind e = let n : 2 ≡ length (kind ∷ x ∷ xs) + 1 = cc e in absurd (omega (arith, n))
 
-one_place : (kind : Kind) (ks : List Kind) (s : Scalar) → IsGraph (kind ∷ ks) → scalar_kind kind ≡ Some s → kind ∷ ks ≡ graph_of s
+one_place : (kind : Kind) (ks : List Kind) (s : Scalar) → IsGraph (kind ∷ ks) → scalar_kind kind ≡ Some s → kind ∷ ks ≡ scalar_graph s
 unfolding child_end end_of
-one_place kinds.Null ks s g h = let e : scalars.Null ≡ s = cc h in alone ks kinds.Null g.sealed ∙ ap graph_of e
-one_place (kinds.Bool b) ks s g h = let e : scalars.Bool b ≡ s = cc h in alone ks (kinds.Bool b) g.sealed ∙ ap graph_of e
-one_place (kinds.Int n) ks s g h = let e : scalars.Int n ≡ s = cc h in alone ks (kinds.Int n) g.sealed ∙ ap graph_of e
+one_place kinds.Null ks s g h = let e : scalars.Null ≡ s = cc h in alone ks kinds.Null g.sealed ∙ ap scalar_graph e
+one_place (kinds.Bool b) ks s g h = let e : scalars.Bool b ≡ s = cc h in alone ks (kinds.Bool b) g.sealed ∙ ap scalar_graph e
+one_place (kinds.Int n) ks s g h = let e : scalars.Int n ≡ s = cc h in alone ks (kinds.Int n) g.sealed ∙ ap scalar_graph e
 one_place (kinds.Str x) ks s g h = absurd (cc h)
 one_place (kinds.Array ms) ks s g h = absurd (cc h)
 one_place (kinds.Object class ps) ks s g h = absurd (cc h)
 one_place (kinds.Same x) ks s g h = absurd (cc h)
 
 pub scalar_found : (core : Core) (words : List ℕ) (aside : Aside) (key : List ℕ) (t : ℕ) (s : Scalar) → CoreStands core words aside
-    → look.Scalar s ≡ look_of (live_row key t (cache_of core)) → reply.Found (graph_of s) ≡ found_in (live_row key t (cache_of core))
+    → look.Scalar s ≡ look_of (live_row key t (cache_of core)) → reply.Found (scalar_graph s) ≡ found_in (live_row key t (cache_of core))
 scalar_found core words aside key t s st h = go (live_row key t (cache_of core)) refl h
   where
-    whole : (g : List Kind) → IsGraph g → scalar_of g ≡ Some s → g ≡ graph_of s
+    whole : (g : List Kind) → IsGraph g → scalar_of g ≡ Some s → g ≡ scalar_graph s
     whole [] is e = absurd (cc e)
     whole (kind ∷ ks) is e = one_place kind ks s is e
 
-    at_row : (row : Row) → live_row key t (cache_of core) ≡ Some row → (o : Option Scalar) → scalar_of row.graph ≡ o → look.Scalar s ≡ look_at row.place o → reply.Found (graph_of s) ≡ found_in (Some row)
+    at_row : (row : Row) → live_row key t (cache_of core) ≡ Some row → (o : Option Scalar) → scalar_of row.graph ≡ o → look.Scalar s ≡ look_at row.place o → reply.Found (scalar_graph s) ≡ found_in (Some row)
     at_row row live None none q = absurd (cc q)
     at_row row live (Some x) is q =
         let same : s ≡ x = cc q in
         let entry : IsEntry words row = st.stand.rows row (live_there key t (cache_of core) row live) in
         ap reply.Found (sym (whole row.graph entry.image.graph (is ∙ ap Some (sym same))))
 
-    go : (o : Option Row) → live_row key t (cache_of core) ≡ o → look.Scalar s ≡ look_of o → reply.Found (graph_of s) ≡ found_in o
+    go : (o : Option Row) → live_row key t (cache_of core) ≡ o → look.Scalar s ≡ look_of o → reply.Found (scalar_graph s) ≡ found_in o
     go None live q = absurd (cc q)
     go (Some row) live q = at_row row live (scalar_of row.graph) refl q
 

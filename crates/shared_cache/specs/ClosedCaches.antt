@@ -12,7 +12,7 @@ use Rattle.cache_core.specs.CoreCache.{cache_of, CacheStands}
 use Rattle.pin_table.specs.Values.{PassView}
 use Rattle.pin_table.specs.Events.{events_of}
 use Rattle.pin_table.specs.Lists.{known_list}
-use Rattle.pin_table.specs.Views.{is_among}
+use Rattle.pin_table.specs.Views.{has_worker}
 use Rattle.shared_cache.specs.declared.locked_cache.Closed.{Closed}
 
 -- The journal holds the marks of one legal history, which begins with what each of them has seen.
@@ -27,7 +27,7 @@ pub record IsClosed (conf : Conf) (workers : ℕ) (ended : List PassView) (close
   pub seen : (k : ℕ) (b : PassView) → slice_get ended k ≡ Some b → IsPrefix b.known.seen history
   pub own : (k : ℕ) (b : PassView) → slice_get ended k ≡ Some b
       → events_of b.known.worker history ≡ b.known.own
-  pub others : (w : ℕ) → is_among w (known_list ended) ≡ false → events_of w history ≡ []
+  pub others : (w : ℕ) → has_worker w (known_list ended) ≡ false → events_of w history ≡ []
 
 -- So it was closed. The core is the cache after that history, and the words stand for it. They are
 -- words of one thread, which have no windows.

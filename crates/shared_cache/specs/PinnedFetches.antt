@@ -28,15 +28,15 @@ pub record FollowsFound (conf : Conf) (workers : ℕ) (p : PassView) (k : CopyVi
   pub image : IsImageOf k.copy.content 0 (length k.copy.content) graph
 
 -- the value that is answered at once
-abbrev pub graph_of : Scalar → List Kind
-graph_of scalars.Null = kinds.Null ∷ []
-graph_of (scalars.Bool b) = kinds.Bool b ∷ []
-graph_of (scalars.Int n) = kinds.Int n ∷ []
+abbrev pub scalar_graph : Scalar → List Kind
+scalar_graph scalars.Null = kinds.Null ∷ []
+scalar_graph (scalars.Bool b) = kinds.Bool b ∷ []
+scalar_graph (scalars.Int n) = kinds.Int n ∷ []
 
 -- what a fetch of the key leaves
 abbrev pub IsFetched : Conf → ℕ → PassView → ℕ → List ℕ → Pinned → Type 0
 IsFetched conf workers p t key (pinned.Hit k) = FollowsFound conf workers p k t key
 IsFetched conf workers p t key (pinned.Scalar q scalar) =
-    Follows conf workers p q t (request.Fetch key) (reply.Found (graph_of scalar))
+    Follows conf workers p q t (request.Fetch key) (reply.Found (scalar_graph scalar))
 IsFetched conf workers p t key (pinned.Miss q) =
     Follows conf workers p q t (request.Fetch key) reply.Absent

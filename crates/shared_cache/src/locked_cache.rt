@@ -11,7 +11,7 @@ ghost use Rattle.shared_cache.specs.Follows.{Follows};
 ghost use Rattle.shared_cache.specs.PinnedFetches.{IsFetched};
 ghost use Rattle.shared_cache.specs.LearnedEnds.{Learns};
 ghost use Rattle.pin_table.specs.Lists.{AllOf, known_list};
-ghost use Rattle.pin_table.specs.Views.{is_among};
+ghost use Rattle.pin_table.specs.Views.{has_worker};
 ghost use Rattle.shared_cache.specs.ClosedCaches.{IsClosed, IsClosedWhole};
 
 use crate::lower::lower_laws;
@@ -270,7 +270,7 @@ impl<N: TableName> LockedCache<N> {
         requires table { table ≡ N.table }
         requires ended { AllOf N.table ended.ended }
         requires every { (w : ℕ) → w < length N.budgets
-            → is_among w (known_list ended.ended) ≡ true }
+            → has_worker w (known_list ended.ended) ≡ true }
         ensures { IsClosed N.conf (length N.budgets) ended.ended result }
     {
         let LockedCache {
@@ -289,7 +289,7 @@ impl<N: TableName> LockedCache<N> {
         requires table { table ≡ N.table }
         requires ended { AllOf N.table ended.ended }
         requires every { (w : ℕ) → w < length N.budgets
-            → is_among w (known_list ended.ended) ≡ true }
+            → has_worker w (known_list ended.ended) ≡ true }
         ensures { IsClosedWhole N.conf (length N.budgets) ended.ended result.0 result.1 result.2 }
     {
         lower_laws();

@@ -14,7 +14,7 @@ ghost use Rattle.shared_cache.specs.Follows.{Follows};
 ghost use Rattle.shared_cache.specs.PinnedFetches.{IsFetched};
 ghost use Rattle.shared_cache.specs.LearnedEnds.{Learns};
 ghost use Rattle.pin_table.specs.Lists.{AllOf, known_list};
-ghost use Rattle.pin_table.specs.Views.{is_among};
+ghost use Rattle.pin_table.specs.Views.{has_worker};
 ghost use Rattle.shared_cache.specs.ClosedCaches.{IsClosed, IsClosedWhole};
 
 use crate::locked_cache::{Closed, LockedCache, Pinned};
@@ -303,7 +303,7 @@ impl<N: TableName> Shared<N> {
     pub fn close<R: Wait>(self, rt: &R, ended: EndedList) -> Closed
         requires table { AllOf N.table ended.ended }
         requires every { (w : ℕ) → w < length N.budgets
-            → is_among w (known_list ended.ended) ≡ true }
+            → has_worker w (known_list ended.ended) ≡ true }
         ensures { IsClosed N.conf (length N.budgets) ended.ended result }
     {
         let _ = rt;
@@ -321,7 +321,7 @@ impl<N: TableName> Shared<N> {
     pub fn close_all<R: Wait>(self, rt: &R, ended: EndedList) -> (Closed, Core, VecWords)
         requires table { AllOf N.table ended.ended }
         requires every { (w : ℕ) → w < length N.budgets
-            → is_among w (known_list ended.ended) ≡ true }
+            → has_worker w (known_list ended.ended) ≡ true }
         ensures { IsClosedWhole N.conf (length N.budgets) ended.ended result.0 result.1 result.2 }
     {
         let _ = rt;

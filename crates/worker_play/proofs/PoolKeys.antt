@@ -21,10 +21,10 @@ use Rattle.simple_pool.specs.Requests.{set_of}
 use Rattle.script_read.specs.declared.call.Call.{Call}
 use Rattle.script_read.specs.declared.call.Call.TheVariants.{Pool}
 use Rattle.script_read.specs.Play.{wish_at, next_of}
-use Rattle.reply_text.specs.PoolReplies.{value_or, all_done_text, pool_text}
+use Rattle.reply_text.specs.PoolReplies.{value_or_default, all_done_text, pool_text}
 use Rattle.reply_text.specs.Replies.{flag_text, is_done, fetched, noted}
 use Rattle.worker_play.specs.Goes.{GoesOn, Reaches, Tells}
-use Rattle.worker_play.specs.Pools.{own_key, life_of, put_as, put_of, put_done, answer_value, answers_noted}
+use Rattle.worker_play.specs.Pools.{key_in_cache, life_of, put_as, put_of, put_done, answer_value, answers_noted}
 use Rattle.worker_play.specs.Turns.{Turn, Takes, Over, turns_at, asks_at}
 use Rattle.worker_play.specs.declared.answers.Answer.{Answer}
 use Rattle.worker_play.proofs.CallForms.{call_asks, call_tells, told_once}
@@ -62,8 +62,8 @@ pool_asked_once conf workers p q t pool ask form r s y is same g first =
     pool_asks conf workers p q t pool ask form is (one_asked conf workers p q (turns_at t (next_of conf (call_on pool form))) (wish_at t s) y (asked_as conf workers p q t r s y same g) first)
 
 -- the key of the cache is that of the call's key
-pub own_is : (pool : List ℕ) (ask form : PoolAsk) (own key : List ℕ) → ask ≡ form → own_key pool form ≡ Some (pool_key pool key) → own_key pool ask ≡ Some own → own ≡ pool_key pool key
-own_is pool ask form own key is formed has = same_Some own (pool_key pool key) (sym has ∙ (ap (own_key pool) is ∙ formed))
+pub own_is : (pool : List ℕ) (ask form : PoolAsk) (own key : List ℕ) → ask ≡ form → key_in_cache pool form ≡ Some (pool_key pool key) → key_in_cache pool ask ≡ Some own → own ≡ pool_key pool key
+own_is pool ask form own key is formed has = same_Some own (pool_key pool key) (sym has ∙ (ap (key_in_cache pool) is ∙ formed))
 
 -- ---- sets
 
@@ -149,12 +149,12 @@ puts_end conf workers p q turns t told life all m =
 
 -- ---- answers
 
-found_or : (found : Option (List Kind)) (default : List Kind) → unwrap_or found default ≡ value_or default (fetched found)
+found_or : (found : Option (List Kind)) (default : List Kind) → unwrap_or found default ≡ value_or_default default (fetched found)
 found_or None default = refl
 found_or (Some value) default = refl
 
-pub answer_is : (found : Option (List Kind)) (default : List Kind) (y : Reply) → fetched found ≡ y → unwrap_or found default ≡ value_or default y
-answer_is found default y is = found_or found default ∙ ap (value_or default) is
+pub answer_is : (found : Option (List Kind)) (default : List Kind) (y : Reply) → fetched found ≡ y → unwrap_or found default ≡ value_or_default default y
+answer_is found default y is = found_or found default ∙ ap (value_or_default default) is
 
 pub lent_or : (found : Option (Bor (List Kind))) (default : Bor (List Kind)) → (unwrap_or found default).now ≡ unwrap_or (option_map (λ g. g.now) found) default.now
 lent_or None default = refl

@@ -10,7 +10,7 @@ use Rattle.script_read.specs.Budgets.{events_in}
 use Rattle.script_read.specs.Calls.{event_bound}
 use Rattle.script_read.specs.Grammar.{ends_line}
 use Rattle.script_read.specs.Play.{next_of}
-use Rattle.reply_text.specs.Lines.{call_text, before, lines_from, script_lines}
+use Rattle.reply_text.specs.Lines.{call_text, before, call_lines, script_lines}
 use Rattle.worker_play.specs.Goes.{Reaches, Tells, nothing}
 use Rattle.worker_play.specs.Turns.{Turn, Over, turns_at, turns_of}
 use Rattle.worker_play.proofs.PassProgress.{Midway, goes_on, more_asked, ends}
@@ -25,7 +25,7 @@ own_before own later =
 lines_step : (conf : Conf) (step : Step) (steps : List Step) (own later : List Reply) → turns_at step.t (next_of conf step.call) own ≡ Over []
     → script_lines conf (step ∷ steps) (own ++ later) ≡ (call_text step.call own ++ ends_line) ++ script_lines conf steps later
 lines_step conf step steps own later over =
-    ap (lines_from step.call (own ++ later) (script_lines conf steps)) (over_goes_on conf step.t step.call own over later)
+    ap (call_lines step.call (own ++ later) (script_lines conf steps)) (over_goes_on conf step.t step.call own over later)
     ∙ ap (λ (l : List Reply). call_text step.call l ++ ends_line ++ script_lines conf steps later) (own_before own later)
 
 -- what a step asks its script wants

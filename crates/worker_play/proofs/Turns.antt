@@ -16,7 +16,7 @@ use Rattle.script_read.specs.Play.{Wish, wish_at, Next, Asks, Leaves, next_of, c
 use Rattle.script_read.proofs.EventBounds.{asks_few}
 use Rattle.play_laws.specs.Own.{AreInTurn}
 use Rattle.play_laws.specs.Parts.{get_joined, take_joined}
-use Rattle.reply_text.specs.Lines.{call_text, before, lines_from, script_lines}
+use Rattle.reply_text.specs.Lines.{call_text, before, call_lines, script_lines}
 use Rattle.worker_play.specs.Turns.{Turn, Takes, Over, turn_at, turns_at, then_turns, turns_of, wish_of_turn, wanted_in}
 
 -- ---- wishes in turn
@@ -184,7 +184,7 @@ pub lines_more : (conf : Conf) (script : List Step) (replies others later : List
 lines_more conf [] replies others later over = refl
 lines_more conf (step ∷ steps) replies others later over =
     let first = first_over conf step steps replies others over in
-    ap (lines_from step.call (replies ++ later) (script_lines conf steps)) (leaves_more conf step.call replies first.own later first.leaves)
+    ap (call_lines step.call (replies ++ later) (script_lines conf steps)) (leaves_more conf step.call replies first.own later first.leaves)
     ∙ (ap (λ (l : List Reply). call_text step.call l ++ ends_line ++ script_lines conf steps (first.own ++ later)) (before_more first.own replies later)
     ∙ (ap (λ (l : List ℕ). call_text step.call (before first.own replies) ++ ends_line ++ l) (lines_more conf steps first.own others later first.rest)
-    ∙ sym (ap (lines_from step.call replies (script_lines conf steps)) first.leaves)))
+    ∙ sym (ap (call_lines step.call replies (script_lines conf steps)) first.leaves)))

@@ -16,7 +16,7 @@ use Rattle.reply_text.specs.Lines.{script_lines}
 use Rattle.play_laws.specs.Own.{own_replies, wish_in, AreInTurn, HasPlayed}
 use Rattle.shared_cache.specs.Follows.{Follows}
 use Rattle.worker_play.specs.Goes.{wish, KnowsOwnEvents, GoesOn, Reaches, Tells, nothing}
-use Rattle.worker_play.specs.Ends.{PlaysOut, Asked, HasMade, PlaysAll}
+use Rattle.worker_play.specs.Ends.{PlaysOut, AskedInTurn, HasMade, PlaysAll}
 use Rattle.worker_play.specs.Turns.{turns_of}
 use Rattle.worker_play.proofs.PassProgress.{OwnLaws, more, one}
 use Rattle.worker_play.proofs.Turns.{script_few, in_turn_one, in_turn_more, in_turn_wanted, ends_wanted, lines_more}
@@ -73,7 +73,7 @@ plays_out_if laws conf workers p o q script (Err e) none unanswered t f = tt
 
 -- a worker that ends wherever it was
 pub has_asked : OwnLaws → (conf : Conf) (workers : ℕ) (p o q : PassView) (script : List Step) → p.known.own ≡ [] → own_replies conf p.known.worker p.known.seen ≡ []
-    → Reaches conf workers p o (turns_of conf script) → Follows conf workers o q 0 requests.Retire replies.Ended → Asked conf script q
+    → Reaches conf workers p o (turns_of conf script) → Follows conf workers o q 0 requests.Retire replies.Ended → AskedInTurn conf script q
 has_asked laws conf workers p o q script none unanswered r f =
     let e = ends_after laws conf workers p o q r.made r.replies none unanswered r.goes f in
     record { made = r.made; replies = r.replies; in_turn = r.in_turn; asked = e.asked; answered = e.answered }

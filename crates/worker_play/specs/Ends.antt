@@ -21,7 +21,7 @@ pub record PlaysOut (conf : Conf) (script : List Step) (b : PassView) (text : Li
   pub lines : text ≡ script_lines conf script (own_replies conf b.known.worker b.known.seen)
 
 -- It asked some first of what the calls of its script want, in turn, and then its end.
-pub record Asked (conf : Conf) (script : List Step) (b : PassView) : Type 0 where
+pub record AskedInTurn (conf : Conf) (script : List Step) (b : PassView) : Type 0 where
   pub made : List Wish
   pub replies : List Reply
   pub in_turn : AreInTurn (wanted_in (turns_of conf script)) made replies
@@ -34,7 +34,7 @@ pub record Ends (t : TableId) (conf : Conf) (w : ℕ) (script : List Step) (b : 
   pub table : b.table ≡ t
   pub worker : b.known.worker ≡ w
   pub all_own : KnowsOwnEvents b
-  pub begun : Asked conf script b
+  pub begun : AskedInTurn conf script b
   pub plays : IfSome text (λ lines. PlaysOut conf script b lines)
 
 -- ---- without lines

@@ -13,13 +13,13 @@ use Rattle.worker_play.specs.declared.answers.Answer.{Answer}
 use Rattle.worker_play.specs.declared.answers.Answer.TheVariants.{Found, Default}
 
 -- under which key of the cache a pool keeps the key of a call on one key
-abbrev pub own_key : List ℕ → PoolAsk → Option (List ℕ)
-own_key pool (Get key default) = Some (pool_key pool key)
-own_key pool (Set key value ttl) = Some (pool_key pool key)
-own_key pool (SetPlain key value) = Some (pool_key pool key)
-own_key pool (Delete key) = Some (pool_key pool key)
-own_key pool (Has key) = Some (pool_key pool key)
-own_key pool _ = None
+abbrev pub key_in_cache : List ℕ → PoolAsk → Option (List ℕ)
+key_in_cache pool (Get key default) = Some (pool_key pool key)
+key_in_cache pool (Set key value ttl) = Some (pool_key pool key)
+key_in_cache pool (SetPlain key value) = Some (pool_key pool key)
+key_in_cache pool (Delete key) = Some (pool_key pool key)
+key_in_cache pool (Has key) = Some (pool_key pool key)
+key_in_cache pool _ = None
 
 -- ---- sets
 

@@ -2,7 +2,7 @@
 
 ghost use Rattle.std.specs.Prelude.{◌≡◌, IfOk, OnOk};
 ghost use Rattle.apcu_model.specs.declared.request.Reply.{Reply};
-ghost use Rattle.reply_text.specs.PoolReplies.{value_or};
+ghost use Rattle.reply_text.specs.PoolReplies.{value_or_default};
 ghost use Rattle.reply_text.specs.Replies.{fetched, noted};
 ghost use Rattle.worker_play.specs.Pools.{answer_value, answers_noted};
 
@@ -37,7 +37,7 @@ pub(crate) fn note_answer<'a, 'b>(
 ) -> Result<(), AllocError>
     ensures { (y : Reply) → IfOk found (λ found. fetched found ≡ y)
         → OnOk result (answers_noted answers.new
-        ≡ noted key.now (value_or default.now y) (answers_noted answers.old)) }
+        ≡ noted key.now (value_or_default default.now y) (answers_noted answers.old)) }
 {
     match found? {
         Some(value) => answers.note(key, Answer::Found(value)),

@@ -6,7 +6,7 @@ ghost use Rattle.apcu_model.specs.declared.request.Reply.{Reply};
 ghost use Rattle.script_read.specs.GeneratedScripts.{counter_key};
 ghost use Rattle.play_laws.specs.Observer.{wish_now};
 ghost use Rattle.play_laws.specs.Summary.{first_number, number_found};
-ghost use Rattle.shared_cache.specs.PinnedFetches.{graph_of};
+ghost use Rattle.shared_cache.specs.PinnedFetches.{scalar_graph};
 ghost use Rattle.worker_play.specs.Goes.{KnowsOwnEvents, GoesOn};
 ghost use Rattle.worker_play.specs.Looks.{Observes};
 
@@ -19,7 +19,7 @@ use std::sync::Wait;
 
 // The integer that is answered at once, or 0.
 fn number_of(scalar: Scalar) -> i64
-    ensures { result ≡ first_number (graph_of scalar) }
+    ensures { result ≡ first_number (scalar_graph scalar) }
 {
     match scalar {
         Scalar::Int(n) => n,

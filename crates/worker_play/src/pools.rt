@@ -14,7 +14,7 @@ ghost use Rattle.reply_text.specs.PoolReplies.{got_all_text, pool_text};
 ghost use Rattle.reply_text.specs.Replies.{flag_text};
 ghost use Rattle.shared_cache.specs.Asking.{MayAsk};
 ghost use Rattle.worker_play.specs.Goes.{KnowsOwnEvents, GoesOn, Reaches, Tells};
-ghost use Rattle.worker_play.specs.Pools.{own_key, life_of, put_as, put_of, put_done};
+ghost use Rattle.worker_play.specs.Pools.{key_in_cache, life_of, put_as, put_of, put_done};
 ghost use Rattle.worker_play.specs.Turns.{turns_at, asks_at};
 
 use crate::answers::note_answer;
@@ -53,7 +53,7 @@ pub(crate) fn play_pool<N: TableName, G: Gate, R: Wait>(
         (turns_at when.t (next_of N.conf (Pool call.now)))
         (λ replies. out.old ++ pool_text call.now.ask replies) out.new) }
 {
-    match own_key(context.alloc, call) {
+    match key_in_cache(context.alloc, call) {
         Ok(Some(own)) => play_on_key(context, when, pass, call, &own, out),
         Ok(None) => play_on_keys(context, when, pass, call, search, out),
         Err(e) => (pass, Err(e)),
@@ -61,9 +61,9 @@ pub(crate) fn play_pool<N: TableName, G: Gate, R: Wait>(
 }
 
 // Under which key of the cache the pool keeps the key of a call on one key.
-fn own_key(alloc: Global, call: &PoolCall) -> Result<Option<Bytes>, AllocError>
+fn key_in_cache(alloc: Global, call: &PoolCall) -> Result<Option<Bytes>, AllocError>
     requires { IsGoodCall call.now }
-    ensures { IfOk result (λ own. own ≡ own_key call.now.pool call.now.ask) }
+    ensures { IfOk result (λ own. own ≡ key_in_cache call.now.pool call.now.ask) }
 {
     match &call.ask {
         PoolAsk::Get(key, _)
@@ -90,7 +90,7 @@ fn play_on_key<N: TableName, G: Gate, R: Wait>(
     requires pass { MayAsk N.table 2 pass }
     requires whole { KnowsOwnEvents pass }
     requires good { IsGoodCall call.now }
-    requires own { own_key call.now.pool call.now.ask ≡ Some own.now }
+    requires own { key_in_cache call.now.pool call.now.ask ≡ Some own.now }
     ensures reaches { Reaches N.conf (length N.budgets) pass result.0
         (turns_at when.t (next_of N.conf (Pool call.now))) }
     ensures line { OnOk result.1 (Tells N.conf (length N.budgets) pass result.0
@@ -140,7 +140,7 @@ fn play_on_keys<N: TableName, G: Gate, R: Wait>(
     requires left { pool_bound N.conf.slots call.now.ask < pass.known.left }
     requires good { IsGoodCall call.now }
     requires search { search.old ≡ ask_pattern call.now.pool call.now.ask }
-    requires several { own_key call.now.pool call.now.ask ≡ None }
+    requires several { key_in_cache call.now.pool call.now.ask ≡ None }
     ensures reaches { Reaches N.conf (length N.budgets) pass result.0
         (turns_at when.t (next_of N.conf (Pool call.now))) }
     ensures line { OnOk result.1 (Tells N.conf (length N.budgets) pass result.0

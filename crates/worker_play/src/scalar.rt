@@ -5,7 +5,7 @@ ghost use Rattle.php_graph.specs.Building.{nothing_drafted, item_fits, pushed, w
 ghost use Rattle.php_graph.specs.declared.item.Wants.TheVariants.{Value, Done};
 ghost use Rattle.apcu_model.specs.declared.request.Reply.TheVariants.{Found};
 ghost use Rattle.reply_text.specs.Replies.{fetched_one};
-ghost use Rattle.shared_cache.specs.PinnedFetches.{graph_of};
+ghost use Rattle.shared_cache.specs.PinnedFetches.{scalar_graph};
 
 use cache_core::Scalar;
 use notation::ByteOut;
@@ -27,7 +27,7 @@ fn one_place(alloc: Global, item: Item) -> Result<Graph, AllocError>
 }
 
 pub(crate) fn graph_of_scalar(alloc: Global, scalar: Scalar) -> Result<Graph, AllocError>
-    ensures { IfOk result (λ g. g ≡ graph_of scalar) }
+    ensures { IfOk result (λ g. g ≡ scalar_graph scalar) }
 {
     match scalar {
         Scalar::Null => one_place(alloc, Item::Null),
@@ -38,7 +38,7 @@ pub(crate) fn graph_of_scalar(alloc: Global, scalar: Scalar) -> Result<Graph, Al
 
 // Appends the value's text, and that it was there.
 pub(crate) fn write_scalar(out: &mut ByteOut, scalar: Scalar) -> Result<(), AllocError>
-    ensures { OnOk result (out.new ≡ out.old ++ fetched_one (Found (graph_of scalar))) }
+    ensures { OnOk result (out.new ≡ out.old ++ fetched_one (Found (scalar_graph scalar))) }
 {
     match scalar {
         Scalar::Null => out.push(b"N;b:1;"),

@@ -13,7 +13,7 @@ use Rattle.cache_core.specs.CoreCache.{cache_of}
 use Rattle.cache_c.specs.declared.cache.Cache.{Cache}
 use Rattle.cache_c.specs.declared.rows.ToldRow.{ToldRow}
 use Rattle.cache_c.specs.Memory.{stands_at, lies}
-use Rattle.cache_c.specs.Standing.{IsStanding, IsKept, words_of}
+use Rattle.cache_c.specs.Standing.{StandsForCache, StandsUnchanged, cache_words}
 use Rattle.cache_c.specs.Told.{IsFoundBy, found_row}
 use Rattle.cache_c.proofs.Standing.{stands_kept}
 use Rattle.cache_c.specs.contracts.cache_find_row_unchecked as f
@@ -54,12 +54,12 @@ cache_find_row_unchecked_spec 𝓤 𝓛 𝓜 𝓡 wired =
     let G = triple_of 𝓛 g.signature (g.spec 𝓛 𝓜.mem 𝓡.returns) in
     let z : G.Ghost = (((α ∷ [], κs), (full_share, qs), tt, (Loan δ, (key, (t, tt))), (vptr b o ∷ [], (shr_slice_vals key, (uint_vals w64 t, tt)))), tt) in
     move ! (0 ∷ 3 ∷ []) $ join ! $ move ! (2 ∷ 3 ∷ []) $ join ! $ join ! $
-    use0 𝓛 (raw (fact 𝓤 (IsStanding n))) (fact_i 𝓤 (IsStanding n) (emp 𝓤) stand) $ move ! (1 ∷ 0 ∷ []) $ use2 𝓛 (raw (G.pre z)) (id⊢ 𝓤 _) $
+    use0 𝓛 (raw (fact 𝓤 (StandsForCache n))) (fact_i 𝓤 (StandsForCache n) (emp 𝓤) stand) $ move ! (1 ∷ 0 ∷ []) $ use2 𝓛 (raw (G.pre z)) (id⊢ 𝓤 _) $
     calls_at ! (framed 𝓤 𝓛.H 𝓜 (tables 𝓤 𝓛.H 𝓜 𝓡 𝓡.env)) G (met 𝓤 𝓛 𝓜 𝓡 (code.calls-cache_c::cache::Cache::find 𝓡.env wired)) z
     (and_then ! (get ! refl) (and_then ! (get ! refl) (and_then ! (get ! refl) (no_more !)))) (λ v.
-    let Told : ToldRow → Cache → Type 0 = λ r new. IsFoundBy (words_of new) (cache_of n.core) key.now (found_row key.now t (cache_of n.core)) r in
+    let Told : ToldRow → Cache → Type 0 = λ r new. IsFoundBy (cache_words new) (cache_of n.core) key.now (found_row key.now t (cache_of n.core)) r in
     use1 𝓛 (later (some (λ (r : ToldRow). ((‵ (flft (α ∷ []) full_share) ⊛ Tokens) ⊛ ‵ (B.own_val r (v ∷ []))) ⊛
-    some (λ (ws : Cache × (Unit {0} × (Unit {0} × Unit {0}))). ‵ (lasts g.ended z.0.0 z.0.3 ws) ⊛ (raw (fact 𝓤 (IsKept n ws.0)) ⊛ raw (fact 𝓤 (Told r ws.0))))))) (id⊢ 𝓤 _) $
+    some (λ (ws : Cache × (Unit {0} × (Unit {0} × Unit {0}))). ‵ (lasts g.ended z.0.0 z.0.3 ws) ⊛ (raw (fact 𝓤 (StandsUnchanged n ws.0)) ⊛ raw (fact 𝓤 (Told r ws.0))))))) (id⊢ 𝓤 _) $
     await ! tt $ pick ! (λ r. split ! $ split ! $ split ! $ lft_end ! tt $
     -- [α is over; the tokens; the answer; the ensures; what the lender keeps]
     move ! (3 ∷ []) $ pick ! (λ ws. split ! $ move ! (1 ∷ []) $ split ! $ heard ! _ (λ kept. heard ! _ (λ told. fsplit ! $ fsplit ! $
@@ -68,7 +68,7 @@ cache_find_row_unchecked_spec 𝓤 𝓛 𝓜 𝓡 wired =
     move ! (4 ∷ []) $ peeks ! B (Is B) (shows 𝓛 B) r (v ∷ []) (λ is. lands_as ! refl refl ((answer.the_row_laws.lawful 𝓛).typed r _ is).0 $
     returns ! (look_at ! 0 refl) $ free_all ! refl $ keep ! (1 ∷ 0 ∷ 4 ∷ []) $
     suffices ! _ (ends_at 𝓛 f.ended stayed c (y (block_ptr b o)) v r (tt, (tt, (tt, tt))) (tt, (tt, (tt, tt)))) $
-    nothing ! $ fpack ! (IsStanding ws.0) (λ _. ftrue) (stands_kept kept stand) $ move ! (1 ∷ 0 ∷ []) $ fjoin ! $
-    nothing ! $ fpack ! (IsKept n ws.0 × Told r ws.0) (λ _. ftrue) (kept, told) $ move ! (1 ∷ 0 ∷ []) $ fjoin ! $
-    fpack ! Cache (λ new. fsep (stands_at (block_ptr b o) new) (fex (IsKept n new × Told r new) (λ _. ftrue))) ws.0 $ move ! (1 ∷ 0 ∷ []) $
+    nothing ! $ fpack ! (StandsForCache ws.0) (λ _. ftrue) (stands_kept kept stand) $ move ! (1 ∷ 0 ∷ []) $ fjoin ! $
+    nothing ! $ fpack ! (StandsUnchanged n ws.0 × Told r ws.0) (λ _. ftrue) (kept, told) $ move ! (1 ∷ 0 ∷ []) $ fjoin ! $
+    fpack ! Cache (λ new. fsep (stands_at (block_ptr b o) new) (fex (StandsUnchanged n new × Told r new) (λ _. ftrue))) ws.0 $ move ! (1 ∷ 0 ∷ []) $
     nothing ! $ nothing ! $ join ! $ nothing ! $ join ! $ nothing ! $ join ! $ move ! (3 ∷ []) $ group ! 3 $ done !))))))))))))

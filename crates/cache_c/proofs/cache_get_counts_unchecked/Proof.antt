@@ -11,7 +11,7 @@ use Rattle.cache_core.specs.CoreCache.{cache_of}
 use Rattle.cache_c.specs.declared.cache.Cache.{Cache}
 use Rattle.cache_c.specs.declared.counts.ToldCounts.{ToldCounts}
 use Rattle.cache_c.specs.Memory.{stands_at, lies}
-use Rattle.cache_c.specs.Standing.{IsStanding, IsKept}
+use Rattle.cache_c.specs.Standing.{StandsForCache, StandsUnchanged}
 use Rattle.cache_c.specs.Told.{counts_told}
 use Rattle.cache_c.proofs.Standing.{stands_kept}
 use Rattle.cache_c.specs.contracts.cache_get_counts_unchecked as f
@@ -47,12 +47,12 @@ cache_get_counts_unchecked_spec 𝓤 𝓛 𝓜 𝓡 wired =
     let G = triple_of 𝓛 g.signature (g.spec 𝓛 𝓜.mem 𝓡.returns) in
     let z : G.Ghost = (((α ∷ [], tt), (full_share, tt), tt, (Loan δ, tt), (vptr b o ∷ [], tt)), tt) in
     nothing ! $ move ! (1 ∷ 0 ∷ []) $ join ! $ nothing ! $ move ! (3 ∷ 0 ∷ []) $ join ! $ join ! $
-    use0 𝓛 (raw (fact 𝓤 (IsStanding n))) (fact_i 𝓤 (IsStanding n) (emp 𝓤) stand) $ move ! (1 ∷ 0 ∷ []) $ use2 𝓛 (raw (G.pre z)) (id⊢ 𝓤 _) $
+    use0 𝓛 (raw (fact 𝓤 (StandsForCache n))) (fact_i 𝓤 (StandsForCache n) (emp 𝓤) stand) $ move ! (1 ∷ 0 ∷ []) $ use2 𝓛 (raw (G.pre z)) (id⊢ 𝓤 _) $
     calls_at ! (framed 𝓤 𝓛.H 𝓜 𝓣) G (met 𝓤 𝓛 𝓜 𝓡 (code.calls-cache_c::cache::Cache::counts 𝓡.env wired)) z
     (and_then ! (get ! refl) (no_more !)) (λ v.
     let Told : ToldCounts → Type 0 = λ r. r ≡ counts_told (cache_of n.core) in
     use1 𝓛 (later (some (λ (r : ToldCounts). ((‵ (flft (α ∷ []) full_share) ⊛ ‵ ftrue) ⊛ ‵ (B.own_val r (v ∷ []))) ⊛
-    some (λ (ws : Cache × Unit {0}). ‵ (lasts g.ended z.0.0 z.0.3 ws) ⊛ (raw (fact 𝓤 (IsKept n ws.0)) ⊛ raw (fact 𝓤 (Told r))))))) (id⊢ 𝓤 _) $
+    some (λ (ws : Cache × Unit {0}). ‵ (lasts g.ended z.0.0 z.0.3 ws) ⊛ (raw (fact 𝓤 (StandsUnchanged n ws.0)) ⊛ raw (fact 𝓤 (Told r))))))) (id⊢ 𝓤 _) $
     await ! tt $ pick ! (λ r. split ! $ split ! $ split ! $ lft_end ! tt $
     -- [α is over; nothing; the answer; the ensures; what the lender keeps]
     move ! (3 ∷ []) $ pick ! (λ ws. split ! $ move ! (1 ∷ []) $ split ! $ heard ! _ (λ kept. heard ! _ (λ told. fsplit ! $ fsplit ! $
@@ -61,7 +61,7 @@ cache_get_counts_unchecked_spec 𝓤 𝓛 𝓜 𝓡 wired =
     move ! (4 ∷ []) $ peeks ! B (Is B) (shows 𝓛 B) r (v ∷ []) (λ is. lands_as ! refl refl ((answer.the_row_laws.lawful 𝓛).typed r _ is).0 $
     returns ! (look_at ! 0 refl) $ free_all ! refl $ keep ! (1 ∷ 0 ∷ []) $
     suffices ! _ (ends_at 𝓛 f.ended stayed c (y (block_ptr b o)) v r (tt, tt) (tt, tt)) $
-    nothing ! $ fpack ! (IsStanding ws.0) (λ _. ftrue) (stands_kept kept stand) $ move ! (1 ∷ 0 ∷ []) $ fjoin ! $
-    nothing ! $ fpack ! (IsKept n ws.0 × Told r) (λ _. ftrue) (kept, told) $ move ! (1 ∷ 0 ∷ []) $ fjoin ! $
-    fpack ! Cache (λ new. fsep (stands_at (block_ptr b o) new) (fex (IsKept n new × Told r) (λ _. ftrue))) ws.0 $ move ! (1 ∷ 0 ∷ []) $
+    nothing ! $ fpack ! (StandsForCache ws.0) (λ _. ftrue) (stands_kept kept stand) $ move ! (1 ∷ 0 ∷ []) $ fjoin ! $
+    nothing ! $ fpack ! (StandsUnchanged n ws.0 × Told r) (λ _. ftrue) (kept, told) $ move ! (1 ∷ 0 ∷ []) $ fjoin ! $
+    fpack ! Cache (λ new. fsep (stands_at (block_ptr b o) new) (fex (StandsUnchanged n new × Told r) (λ _. ftrue))) ws.0 $ move ! (1 ∷ 0 ∷ []) $
     nothing ! $ nothing ! $ join ! $ nothing ! $ group ! 3 $ done !))))))))))))

@@ -11,7 +11,7 @@ use types.SemTy.{Body}
 use types.Tokens.{lft_new, lft_end}
 use Rattle.cache_c.specs.declared.cache.Cache.{Cache}
 use Rattle.cache_c.specs.Memory.{stands_at, lies}
-use Rattle.cache_c.specs.Standing.{IsStanding}
+use Rattle.cache_c.specs.Standing.{StandsForCache}
 use Rattle.cache_c.specs.Asked.{HasLetGo}
 use Rattle.cache_c.specs.contracts.cache_let_go_unchecked as f
 use Rattle.cache_c.proofs.cache_let_go_unchecked.Statement.{statement}
@@ -46,11 +46,11 @@ cache_let_go_unchecked_spec 𝓤 𝓛 𝓜 𝓡 wired =
     let z : G.Ghost = (((α ∷ [], tt), (full_share, tt), tt, (Loan δ, (seat, tt)), (vptr b o ∷ [], (vint w32 seat ∷ [], tt))), tt) in
     nothing ! $ owned ! u32 _ (uint_Makes 𝓛 w32) seat _ (refl, are.1.0.1) $ join ! $ move ! (1 ∷ 0 ∷ []) $ join ! $
     nothing ! $ move ! (3 ∷ 0 ∷ []) $ join ! $ join ! $
-    use0 𝓛 (raw (fact 𝓤 (IsStanding n))) (fact_i 𝓤 (IsStanding n) (emp 𝓤) stand) $ move ! (1 ∷ 0 ∷ []) $ use2 𝓛 (raw (G.pre z)) (id⊢ 𝓤 _) $
+    use0 𝓛 (raw (fact 𝓤 (StandsForCache n))) (fact_i 𝓤 (StandsForCache n) (emp 𝓤) stand) $ move ! (1 ∷ 0 ∷ []) $ use2 𝓛 (raw (G.pre z)) (id⊢ 𝓤 _) $
     calls_at ! (framed 𝓤 𝓛.H 𝓜 𝓣) G (met 𝓤 𝓛 𝓜 𝓡 (code.calls-cache_c::cache::Cache::let_go 𝓡.env wired)) z
     (and_then ! (get ! refl) (and_then ! (get ! refl) (no_more !))) (λ v.
     use1 𝓛 (later (some (λ (r : Bool). ((‵ (flft (α ∷ []) full_share) ⊛ ‵ ftrue) ⊛ ‵ (bool.own_val r (v ∷ []))) ⊛
-    some (λ (ws : Cache × (Unit {0} × Unit {0})). ‵ (lasts g.ended z.0.0 z.0.3 ws) ⊛ (raw (fact 𝓤 (IsStanding ws.0)) ⊛ raw (fact 𝓤 (HasLetGo n ws.0 seat r))))))) (id⊢ 𝓤 _) $
+    some (λ (ws : Cache × (Unit {0} × Unit {0})). ‵ (lasts g.ended z.0.0 z.0.3 ws) ⊛ (raw (fact 𝓤 (StandsForCache ws.0)) ⊛ raw (fact 𝓤 (HasLetGo n ws.0 seat r))))))) (id⊢ 𝓤 _) $
     await ! tt $ pick ! (λ r. split ! $ split ! $ split ! $ lft_end ! tt $
     -- [α is over; nothing; the answer; the ensures; what the lender keeps]
     move ! (3 ∷ []) $ pick ! (λ ws. split ! $ move ! (1 ∷ []) $ split ! $ heard ! _ (λ stands. heard ! _ (λ gone. fsplit ! $ fsplit ! $
@@ -59,7 +59,7 @@ cache_let_go_unchecked_spec 𝓤 𝓛 𝓜 𝓡 wired =
     move ! (4 ∷ []) $ peeks ! bool (Is bool) (shows 𝓛 bool) r (v ∷ []) (λ is. lands_as ! refl refl ((bool_Lawful 𝓛).typed r _ is).0 $
     returns ! (look_at ! 0 refl) $ free_all ! refl $ keep ! (1 ∷ 0 ∷ []) $
     suffices ! _ (ends_at 𝓛 f.ended stayed c (y (block_ptr b o)) v r (tt, (tt, tt)) (tt, (tt, tt))) $
-    nothing ! $ fpack ! (IsStanding ws.0) (λ _. ftrue) stands $ move ! (1 ∷ 0 ∷ []) $ fjoin ! $
+    nothing ! $ fpack ! (StandsForCache ws.0) (λ _. ftrue) stands $ move ! (1 ∷ 0 ∷ []) $ fjoin ! $
     nothing ! $ fpack ! (HasLetGo n ws.0 seat r) (λ _. ftrue) gone $ move ! (1 ∷ 0 ∷ []) $ fjoin ! $
     fpack ! Cache (λ new. fsep (stands_at (block_ptr b o) new) (fex (HasLetGo n new seat r) (λ _. ftrue))) ws.0 $ move ! (1 ∷ 0 ∷ []) $
     nothing ! $ nothing ! $ join ! $ nothing ! $ join ! $ nothing ! $ group ! 3 $ done !))))))))))))

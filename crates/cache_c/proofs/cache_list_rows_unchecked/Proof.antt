@@ -17,7 +17,7 @@ use Rattle.cache_core.specs.CoreCache.{cache_of}
 use Rattle.cache_c.specs.declared.cache.Cache.{Cache}
 use Rattle.cache_c.specs.declared.rows.ToldRow.{ToldRow}
 use Rattle.cache_c.specs.Memory.{stands_at, lies, rows_at}
-use Rattle.cache_c.specs.Standing.{IsStanding, IsKept, words_of}
+use Rattle.cache_c.specs.Standing.{StandsForCache, StandsUnchanged, cache_words}
 use Rattle.std.specs.Prelude.{drop as dropped}
 use Rattle.cache_c.specs.Told.{AreListedBy, rows_of}
 use Rattle.cache_c.proofs.Standing.{stands_kept}
@@ -68,12 +68,12 @@ cache_list_rows_unchecked_spec 𝓤 𝓛 𝓜 𝓡 wired =
     nothing ! $ move ! (1 ∷ 0 ∷ []) $ join ! $ owned ! u64 _ (uint_Makes 𝓛 w64) skip _ (refl, are.1.1.0.1) $ join ! $ owned ! u32 _ (uint_Makes 𝓛 w32) slot _ (refl, are.1.0.1) $ join ! $ move ! (2 ∷ 0 ∷ []) $ join ! $
     -- [what is passed; the slice's lender's; the loan's lender's; the token of β; the token of α]
     nothing ! $ move ! (4 ∷ 0 ∷ []) $ join ! $ move ! (4 ∷ 0 ∷ []) $ join ! $ join ! $
-    use0 𝓛 (raw (fact 𝓤 (IsStanding old))) (fact_i 𝓤 (IsStanding old) (emp 𝓤) stand) $ move ! (1 ∷ 0 ∷ []) $ use2 𝓛 (raw (G.pre z)) (id⊢ 𝓤 _) $
+    use0 𝓛 (raw (fact 𝓤 (StandsForCache old))) (fact_i 𝓤 (StandsForCache old) (emp 𝓤) stand) $ move ! (1 ∷ 0 ∷ []) $ use2 𝓛 (raw (G.pre z)) (id⊢ 𝓤 _) $
     calls_at ! (framed 𝓤 𝓛.H 𝓜 𝓣) G (met 𝓤 𝓛 𝓜 𝓡 (code.calls-cache_c::cache::Cache::list_rows 𝓡.env wired)) z
     (and_then ! (get ! refl) (and_then ! (get ! refl) (and_then ! (get ! refl) (and_then ! (get ! refl) (no_more !))))) (λ v.
-    let Told : Cache → List ToldRow → ℕ → Type 0 = λ new out r. AreListedBy (words_of new) slot (dropped skip (rows_of (cache_of old.core) slot)) xs out r in
+    let Told : Cache → List ToldRow → ℕ → Type 0 = λ new out r. AreListedBy (cache_words new) slot (dropped skip (rows_of (cache_of old.core) slot)) xs out r in
     use1 𝓛 (later (some (λ (r : ℕ). ((‵ (flft (α ∷ []) full_share) ⊛ ‵ (flft (β ∷ []) full_share) ⊛ ‵ ftrue) ⊛ ‵ (u64.own_val r (v ∷ []))) ⊛
-    some (λ (ws : Cache × (Unit {0} × (Unit {0} × (List ToldRow × Unit {0})))). ‵ (lasts g.ended z.0.0 z.0.3 ws) ⊛ (raw (fact 𝓤 (IsKept old ws.0)) ⊛ raw (fact 𝓤 (Told ws.0 ws.1.1.1.0 r))))))) (id⊢ 𝓤 _) $
+    some (λ (ws : Cache × (Unit {0} × (Unit {0} × (List ToldRow × Unit {0})))). ‵ (lasts g.ended z.0.0 z.0.3 ws) ⊛ (raw (fact 𝓤 (StandsUnchanged old ws.0)) ⊛ raw (fact 𝓤 (Told ws.0 ws.1.1.1.0 r))))))) (id⊢ 𝓤 _) $
     await ! tt $ pick ! (λ r. split ! $ split ! $ split ! $ lft_end ! tt $ move ! (1 ∷ []) $ split ! $ lft_end ! tt $
     -- [β is over; nothing; α is over; the answer; the ensures; the slice's lender's; the loan's lender's]
     move ! (4 ∷ []) $ pick ! (λ ws. split ! $ move ! (1 ∷ []) $ split ! $ heard ! _ (λ kept. heard ! _ (λ told. fsplit ! $ fsplit ! $
@@ -89,7 +89,7 @@ cache_list_rows_unchecked_spec 𝓤 𝓛 𝓜 𝓡 wired =
     returns ! (look_at ! 0 refl) $ free_all ! refl $ keep ! (1 ∷ 5 ∷ 0 ∷ []) $
     suffices ! _ (ends_at 𝓛 f.ended stayed c (y (block_ptr b o) (block_ptr b' o') m) v r (tt, (tt, (tt, (tt, (tt, tt))))) (tt, (tt, (tt, (tt, (tt, tt)))))) $
     nothing ! $ fpack ! (Room E m) (λ _. ftrue) room $ move ! (1 ∷ 0 ∷ []) $ fjoin ! $
-    nothing ! $ fpack ! (IsKept old ws.0 × Told ws.0 ys r) (λ _. ftrue) (kept, told) $ move ! (1 ∷ 0 ∷ []) $ fjoin ! $ move ! (1 ∷ []) $
-    nothing ! $ fpack ! (IsStanding ws.0) (λ _. ftrue) (stands_kept kept stand) $ move ! (1 ∷ 0 ∷ []) $ fjoin ! $ fjoin ! $
-    fpack ! (Cache × List ToldRow) (λ new. fsep (stands_at (block_ptr b o) new.0) (fsep (rows_at (block_ptr b' o') m new.1) (fex (IsKept old new.0 × Told new.0 new.1 r) (λ _. ftrue)))) (ws.0, ys) $ move ! (1 ∷ 0 ∷ []) $
+    nothing ! $ fpack ! (StandsUnchanged old ws.0 × Told ws.0 ys r) (λ _. ftrue) (kept, told) $ move ! (1 ∷ 0 ∷ []) $ fjoin ! $ move ! (1 ∷ []) $
+    nothing ! $ fpack ! (StandsForCache ws.0) (λ _. ftrue) (stands_kept kept stand) $ move ! (1 ∷ 0 ∷ []) $ fjoin ! $ fjoin ! $
+    fpack ! (Cache × List ToldRow) (λ new. fsep (stands_at (block_ptr b o) new.0) (fsep (rows_at (block_ptr b' o') m new.1) (fex (StandsUnchanged old new.0 × Told new.0 new.1 r) (λ _. ftrue)))) (ws.0, ys) $ move ! (1 ∷ 0 ∷ []) $
     nothing ! $ nothing ! $ join ! $ nothing ! $ join ! $ nothing ! $ join ! $ nothing ! $ join ! $ nothing ! $ join ! $ nothing ! $ group ! 3 $ done !))))))))))))))))))

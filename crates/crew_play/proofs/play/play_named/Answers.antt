@@ -6,7 +6,7 @@ use Rattle.worker_play.specs.declared.script.PlayFault.{PlayFault}
 use Rattle.apcu_model.specs.declared.conf.Conf.{Conf}
 use Rattle.script_read.specs.Clock.{timed, all_timed}
 use Rattle.crew_play.specs.Crew.{AllEnd, LastEndsFirst}
-use Rattle.crew_play.specs.PlayedScripts.{IsPlayed, IsLeft}
+use Rattle.crew_play.specs.PlayedScripts.{IsPlayed, IsLeftByPlay}
 use Rattle.crew_play.proofs.FirstEvents.{come_first}
 use Rattle.crew_play.proofs.EndedCrews.{OthersLaw, PlayLaws, all_of, every, all_seen, budgets_for_each, is_played, any_left}
 use Rattle.crew_play.proofs.play.play_named.Goals as goal
@@ -61,7 +61,7 @@ returns-clause-left g c =
     let workers = budgets_for_each c.args.cast.now.conf.now.slots c.args.cast.now.clock c.args.cast.now.scripts.now g.N.TableName.budgets (c.requires.budgets ∙ c.requires.events) in
     let others : OthersLaw = record { others = c.one_event_own.ensures.others } in
     let plays : PlayLaws = record { play = c.histories_are_plays.ensures.play; complete = c.histories_are_plays.ensures.complete } in
-    subst (λ (f : Conf). IfSome closed.1 (λ l. IsLeft f scripts closed.0.journal.marks texts closed.0.counts l.core l.words)) (c.requires.conf ∙ c.requires.shape)
+    subst (λ (f : Conf). IfSome closed.1 (λ l. IsLeftByPlay f scripts closed.0.journal.marks texts closed.0.counts l.core l.words)) (c.requires.conf ∙ c.requires.shape)
     (any_left others plays table conf (length g.N.TableName.budgets) scripts ended texts closed.0 closed.1 workers whole c.close-journal.ensures.left)
 
 pub returns-clause-first : goal.returns-clause-first

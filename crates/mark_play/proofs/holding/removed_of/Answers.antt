@@ -4,7 +4,7 @@ use Rattle.entry_slots.specs.Lists.{is_at}
 use Rattle.entry_slots.specs.Standing.{entries}
 use Rattle.entry_slots.specs.RowWalks.{removed_here, removed_end}
 use Rattle.mark_play.proofs.RowPlaces.{its_place, removed_zero, passed_one, passed_all, shorter}
-use Rattle.mark_play.specs.HeldPlaces.{IsPlaceOf}
+use Rattle.mark_play.specs.HeldPlaces.{IsRowPlace}
 use Rattle.mark_play.proofs.holding.removed_of.Goals as goal
 
 pub head-requires-clause-there : goal.head-requires-clause-there
@@ -57,4 +57,4 @@ returns-clause-place g c =
     let s = entries c.args.slots.now in
     let i = c.loop-at.invariant in
     let none = removed_end c.lower_laws.ensures.standing.sound c.args.slots.now (g.S.WordsIn.words c.args.seg.now) (g.S.WordsIn.aside c.args.seg.now) s i.passed c.requires.stand (sym c.loop-at-test.false ∙ i.at) in
-    subst (IsPlaceOf s.removed c.args.number) (sym c.loop-at-test.false) (passed_all s.removed i.passed c.args.number none i.later)
+    subst (IsRowPlace s.removed c.args.number) (sym c.loop-at-test.false) (passed_all s.removed i.passed c.args.number none i.later)

@@ -4,7 +4,7 @@ use Rattle.std.proofs.lemmas.List.{length-map}
 use Rattle.std.proofs.lemmas.Option.{slice_get-get_or}
 use Rattle.script_read.specs.Clock.{timed, all_timed}
 use Rattle.script_read.specs.Play.{replies_of}
-use Rattle.run_verify.specs.Marks.{IsMarked}
+use Rattle.run_verify.specs.Marks.{IsMadeIfWanted}
 use Rattle.run_verify.specs.Games.{Game, IsGame}
 use Rattle.run_verify.proofs.Games.{no_worker, not_legal, legal_same, wanting, marked_after, game_on}
 use Rattle.run_verify.proofs.TimedScripts.{script_at}
@@ -44,7 +44,7 @@ returns-then-not-wants-clause-marked g c =
     let here = script_at c.args.clock c.args.scripts.now c.args.mark.worker _ c.at-script.ensures in
     let s = c.requires.game.seated c.args.mark.worker script _ here (slice_get-get_or c.args.seats.now c.args.mark.worker c.index-seats-mark.result low) in
     let legal = legal_same (length scripts) c.len-count.result c.args.mark p.stage c.args.replay.now.stage c.is_legal.result true (c.len-count.ensures ∙ sym many) c.requires.game.stage c.is_legal.ensures c.if-not-is_legal.false in
-    let m = subst (λ b. IsMarked c.args.conf.now script rs c.args.replay.now c.play_wish.new.replay c.play_wish.new.seat c.args.mark b) c.if-not-wants.true (c.in_ok-wants.ensures.marked rs s) in
+    let m = subst (λ b. IsMadeIfWanted c.args.conf.now script rs c.args.replay.now c.play_wish.new.replay c.play_wish.new.seat c.args.mark b) c.if-not-wants.true (c.in_ok-wants.ensures.marked rs s) in
     sym (wanting c.args.conf.now scripts p c.args.mark script None legal here m)
 
 pub returns-clause-marked : goal.returns-clause-marked
@@ -58,7 +58,7 @@ returns-clause-marked g c =
     let here = script_at c.args.clock c.args.scripts.now c.args.mark.worker _ c.at-script.ensures in
     let s = c.requires.game.seated c.args.mark.worker script _ here (slice_get-get_or c.args.seats.now c.args.mark.worker c.index-seats-mark.result low) in
     let legal = legal_same (length scripts) c.len-count.result c.args.mark p.stage c.args.replay.now.stage c.is_legal.result true (c.len-count.ensures ∙ sym many) c.requires.game.stage c.is_legal.ensures c.if-not-is_legal.false in
-    let m = subst (λ b. IsMarked c.args.conf.now script rs c.args.replay.now c.play_wish.new.replay c.play_wish.new.seat c.args.mark b) c.if-not-wants.false (c.in_ok-wants.ensures.marked rs s) in
+    let m = subst (λ b. IsMadeIfWanted c.args.conf.now script rs c.args.replay.now c.play_wish.new.replay c.play_wish.new.seat c.args.mark b) c.if-not-wants.false (c.in_ok-wants.ensures.marked rs s) in
     ap (λ (x : Game). Some x.play) c.then.ensures
     ∙ marked_after c.args.conf.now scripts c.args.replay.now c.play_wish.new.replay c.args.seats.now c.play_wish.new.seat c.args.played.now.game c.args.mark script c.requires.game here legal m
 
@@ -73,7 +73,7 @@ returns-clause-game g c =
     let here = script_at c.args.clock c.args.scripts.now c.args.mark.worker _ c.at-script.ensures in
     let s = c.requires.game.seated c.args.mark.worker script _ here (slice_get-get_or c.args.seats.now c.args.mark.worker c.index-seats-mark.result low) in
     let legal = legal_same (length scripts) c.len-count.result c.args.mark p.stage c.args.replay.now.stage c.is_legal.result true (c.len-count.ensures ∙ sym many) c.requires.game.stage c.is_legal.ensures c.if-not-is_legal.false in
-    let m = subst (λ b. IsMarked c.args.conf.now script rs c.args.replay.now c.play_wish.new.replay c.play_wish.new.seat c.args.mark b) c.if-not-wants.false (c.in_ok-wants.ensures.marked rs s) in
+    let m = subst (λ b. IsMadeIfWanted c.args.conf.now script rs c.args.replay.now c.play_wish.new.replay c.play_wish.new.seat c.args.mark b) c.if-not-wants.false (c.in_ok-wants.ensures.marked rs s) in
     subst (λ (x : Game). IsGame c.args.conf.now scripts c.play_wish.new.replay (slice_set c.args.seats.now c.args.mark.worker c.play_wish.new.seat) x) (sym c.then.ensures)
     (game_on c.args.conf.now scripts c.args.replay.now c.play_wish.new.replay c.args.seats.now c.play_wish.new.seat c.args.played.now.game c.args.mark script c.requires.game here legal m)
 
@@ -85,5 +85,5 @@ returns-clause-left g c =
     let low : c.args.mark.worker < length c.args.seats.now = omega (arith, c.if-mark-count.false, c.len-count.ensures, c.requires.game.many, many) in
     let here = script_at c.args.clock c.args.scripts.now c.args.mark.worker _ c.at-script.ensures in
     let s = c.requires.game.seated c.args.mark.worker script _ here (slice_get-get_or c.args.seats.now c.args.mark.worker c.index-seats-mark.result low) in
-    let m = subst (λ b. IsMarked c.args.conf.now script rs c.args.replay.now c.play_wish.new.replay c.play_wish.new.seat c.args.mark b) c.if-not-wants.false (c.in_ok-wants.ensures.marked rs s) in
+    let m = subst (λ b. IsMadeIfWanted c.args.conf.now script rs c.args.replay.now c.play_wish.new.replay c.play_wish.new.seat c.args.mark b) c.if-not-wants.false (c.in_ok-wants.ensures.marked rs s) in
     m.left

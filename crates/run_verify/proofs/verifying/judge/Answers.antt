@@ -10,7 +10,7 @@ use Rattle.mark_play.specs.ReplayStages.{Replayed}
 use Rattle.run_verify.specs.Games.{Game, IsGame, game_begun}
 use Rattle.run_verify.specs.JudgedOutputs.{IsJudgedTo}
 use Rattle.run_verify.specs.Verdicts.{first_difference}
-use Rattle.run_verify.specs.declared.played.Played.{Played}
+use Rattle.run_verify.specs.declared.game_so_far.GameSoFar.{GameSoFar}
 use Rattle.run_verify.specs.declared.seat.Seat.{Seat}
 use Rattle.run_verify.proofs.EventCounts.{timed_all}
 use Rattle.run_verify.proofs.JudgedLines.{judged_none, judged_more, judged_stop, judged_short, judged_whole, none_more, line_mark, line_before, written_back}
@@ -49,10 +49,10 @@ lines-preserved g c =
     let p = c.lines.played.game.play in
     let q = c.in-Some-2.next.game.play in
     let end = c.line_end-end.result in
-    let goes : Some q ≡ marked conf s p c.in-Some-read_mark.mark = ap (option_map (λ (x : Played). x.game.play)) (sym c.in-Some-2.is) ∙ c.in_ok-next.ensures.marked in
+    let goes : Some q ≡ marked conf s p c.in-Some-read_mark.mark = ap (option_map (λ (x : GameSoFar). x.game.play)) (sym c.in-Some-2.is) ∙ c.in_ok-next.ensures.marked in
     let game : IsGame conf s c.play_mark.new.replay c.play_mark.new.seats c.in-Some-2.next.game =
-    subst (λ (r : Option Played). IfSome r (λ (x : Played). IsGame conf s c.play_mark.new.replay c.play_mark.new.seats x.game)) c.in-Some-2.is c.in_ok-next.ensures.game in
-    let left = subst (λ (r : Option Played). IfSome r (λ (x : Played). c.play_mark.new.replay.left + 1 ≡ c.lines.replay.left)) c.in-Some-2.is c.in_ok-next.ensures.left in
+    subst (λ (r : Option GameSoFar). IfSome r (λ (x : GameSoFar). IsGame conf s c.play_mark.new.replay c.play_mark.new.seats x.game)) c.in-Some-2.is c.in_ok-next.ensures.game in
+    let left = subst (λ (r : Option GameSoFar). IfSome r (λ (x : GameSoFar). c.play_mark.new.replay.left + 1 ≡ c.lines.replay.left)) c.in-Some-2.is c.in_ok-next.ensures.left in
     record {
       judged = judged_more conf s o c.args.part c.lines.at end c.lines.k p q c.lines.invariant.judged c.line_end-end.ensures.past c.line_end-end.ensures.within c.line_end-end.ensures.line
           (line_mark conf s p (take (end - c.lines.at) (drop c.lines.at o)) c.in-Some-read_mark.mark (Some q) c.in-Some-read_mark.ensures goes);

@@ -2,7 +2,7 @@ use Rattle.std.proofs.Common.{◌≡◌, ℕ, List, Result, Ok, ap, ◌∙◌, a
 use Rattle.std.proofs.lemmas.Grind.{common_steps}
 use Rattle.notation.specs.declared.fault.Fault.{Fault}
 use Rattle.notation.specs.Marks.{◌>>=◌}
-use Rattle.script_read.specs.Arguments.{ttl}
+use Rattle.script_read.specs.Arguments.{ttl_in}
 use Rattle.script_read.specs.Reading.{choice_at, separator_at, limit_at}
 use Rattle.script_read.proofs.generators.limit.Goals as goal
 
@@ -10,8 +10,8 @@ behind : ℕ × List ℕ → Result (ℕ × List ℕ) Fault
 behind t = separator_at 41 t.1 >>= λ (after : List ℕ). Ok (t.0, after)
 
 -- the limit of time and the parenthesis behind it
-limit_read : (bytes argument : List ℕ) (n : ℕ) (then_left rest : List ℕ) → limit_at bytes ≡ (choice_at ttl argument >>= λ t. separator_at 41 t.1 >>= λ after. Ok (t.0, after))
-    → choice_at ttl argument ≡ Ok (n, then_left) → separator_at 41 then_left ≡ Ok rest → limit_at bytes ≡ Ok (n, rest)
+limit_read : (bytes argument : List ℕ) (n : ℕ) (then_left rest : List ℕ) → limit_at bytes ≡ (choice_at ttl_in argument >>= λ t. separator_at 41 t.1 >>= λ after. Ok (t.0, after))
+    → choice_at ttl_in argument ≡ Ok (n, then_left) → separator_at 41 then_left ≡ Ok rest → limit_at bytes ≡ Ok (n, rest)
 unfolding behind
 limit_read bytes argument n then_left rest whole first second =
     whole

@@ -5,7 +5,7 @@ use Rattle.notation.specs.declared.fault.Fault.{Fault}
 use Rattle.script_read.specs.declared.effect.Effect.{Effect}
 use Rattle.script_read.specs.declared.effect.Effect.TheVariants.{Sets, Begins, Calls}
 use Rattle.script_read.specs.declared.script.Step.{Step}
-use Rattle.script_read.specs.Clock.{at_first, request_at}
+use Rattle.script_read.specs.Clock.{at_first, request_moments}
 use Rattle.script_read.specs.GrowingScripts.{grown, last_len}
 use Rattle.script_read.specs.Reading.{is_worker, worker_at, line_at, scripts_at}
 use Rattle.script_read.specs.Gives.{Stops, IsInRange}
@@ -90,7 +90,7 @@ loop-rest-preserved-in-Begins c =
     let fewer : length after < length rest = omega (arith, c.in_ok-effect.ensures.fewer, c.split_at.ensures.back_len) in
     let read : line_at (length front) rest ≡ Ok (Begins c.in-Begins.t, after) = subst (λ (n : ℕ). line_at n rest ≡ was_read after c.in_ok-effect.effect) c.len-else-is_word.ensures c.in_ok-effect.ensures.read ∙ ap (was_read after) c.in-Begins.is in
     record {
-      so_far = moment_goes_on front c.loop-rest.moments (request_at c.in-Begins.t) (Begins c.in-Begins.t) rest after whole some word read fewer (λ others. refl) c.loop-rest.invariant.so_far;
+      so_far = moment_goes_on front c.loop-rest.moments (request_moments c.in-Begins.t) (Begins c.in-Begins.t) rest after whole some word read fewer (λ others. refl) c.loop-rest.invariant.so_far;
       soon = (subst IsInRange c.in-Begins.is c.in_ok-effect.ensures.range, subst IsInRange c.in-Begins.is c.in_ok-effect.ensures.range);
       few = omega (arith, fewer, c.loop-rest.invariant.few);
       workers = c.loop-rest.invariant.workers;

@@ -2,7 +2,7 @@ use Rattle.std.proofs.Common.{◌≡◌, refl, ap, ap₂, subst, sym}
 use Rattle.apcu_model.specs.declared.request.Request.TheVariants as request
 use Rattle.apcu_model.specs.declared.request.Reply.TheVariants as reply
 use Rattle.pin_table.specs.Values.{PassView}
-use Rattle.shared_cache.specs.PinnedFetches.{graph_of, pass_view_of}
+use Rattle.shared_cache.specs.PinnedFetches.{scalar_graph, pass_view_of}
 use Rattle.worker_play.specs.Goes.{wish, GoesOn}
 use Rattle.std.proofs.Common.{[], ◌∷◌, length}
 use Rattle.worker_play.proofs.PassProgress.{one}
@@ -13,9 +13,9 @@ returns-in-Miss g c = (reply.Absent, one (record { more = c.one_event_own.ensure
 
 pub returns-in-Scalar : goal.returns-in-Scalar
 returns-in-Scalar g c = (
-  reply.Found (graph_of c.in-Scalar.scalar),
+  reply.Found (scalar_graph c.in-Scalar.scalar),
   one (record { more = c.one_event_own.ensures.more; others = c.one_event_own.ensures.others }) _ _ _ _ _ _ _ _ c.in-Scalar.ensures c.requires.whole (ap request.Fetch c.as_slice.ensures.bytes),
-  c.some_of.ensures (graph_of c.in-Scalar.scalar) c.graph_of_scalar-value.ensures,
+  c.some_of.ensures (scalar_graph c.in-Scalar.scalar) c.graph_of_scalar-value.ensures,
 )
 
 pub returns-in-Hit : goal.returns-in-Hit

@@ -2,7 +2,7 @@ use Rattle.std.proofs.Common.{◌≡◌, [], ◌∷◌, length, ap, ap₂, subst
 use Rattle.apcu_model.specs.declared.request.Request.TheVariants as request
 use Rattle.apcu_model.specs.declared.request.Reply.TheVariants as reply
 use Rattle.pin_table.specs.Values.{PassView}
-use Rattle.shared_cache.specs.PinnedFetches.{graph_of, pass_view_of}
+use Rattle.shared_cache.specs.PinnedFetches.{scalar_graph, pass_view_of}
 use Rattle.worker_play.specs.Goes.{wish, GoesOn}
 use Rattle.worker_play.proofs.PassProgress.{one}
 use Rattle.worker_play.proofs.events.fetch_text.Goals as goal
@@ -16,7 +16,7 @@ returns-in-Miss g c = (
 
 pub returns-in-Scalar : goal.returns-in-Scalar
 returns-in-Scalar g c = (
-  reply.Found (graph_of c.in-Scalar.scalar),
+  reply.Found (scalar_graph c.in-Scalar.scalar),
   one (record { more = c.one_event_own.ensures.more; others = c.one_event_own.ensures.others }) _ _ _ _ _ _ _ _ c.in-Scalar.ensures c.requires.whole (ap request.Fetch c.as_slice.ensures.bytes),
   c.write_scalar.ensures,
 )

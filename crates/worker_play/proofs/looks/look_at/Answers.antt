@@ -10,7 +10,7 @@ use Rattle.apcu_model.specs.History.{is_scalar}
 use Rattle.pin_table.specs.Values.{PassView}
 use Rattle.script_read.specs.GeneratedScripts.{counter_key}
 use Rattle.play_laws.specs.Summary.{first_number}
-use Rattle.shared_cache.specs.PinnedFetches.{graph_of, pass_view_of}
+use Rattle.shared_cache.specs.PinnedFetches.{scalar_graph, pass_view_of}
 use Rattle.worker_play.specs.Goes.{wish, GoesOn}
 use Rattle.worker_play.proofs.PassProgress.{one}
 use Rattle.worker_play.proofs.CounterLooks.{key_spelled}
@@ -33,7 +33,7 @@ returns-in-Miss g c = (reply.Absent, one (record { more = c.one_event_own.ensure
 pub returns-in-Scalar : goal.returns-in-Scalar
 returns-in-Scalar g c =
     let fits : FitsSigned w64 c.number_of.result = search rules in (
-      reply.Found (graph_of c.in-Scalar.scalar),
+      reply.Found (scalar_graph c.in-Scalar.scalar),
       one (record { more = c.one_event_own.ensures.more; others = c.one_event_own.ensures.others }) _ _ _ _ _ _ _ _ c.in-Scalar.ensures c.requires.whole (ap request.Fetch (key_spelled c.args.number c.requires.counter)),
       to_z-of_z w64 c.number_of.result fits ∙ c.number_of.ensures,
     )

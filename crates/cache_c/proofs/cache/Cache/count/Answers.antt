@@ -3,7 +3,7 @@ use Rattle.std.specs.Prelude.{ℤ}
 use Rattle.std.proofs.lemmas.Int.{of_z-to_z}
 use Rattle.apcu_model.specs.declared.request.Request.TheVariants as requests
 use Rattle.counter_entry.specs.Numbers.{reply_of}
-use Rattle.cache_c.specs.Standing.{HasDone, words_of}
+use Rattle.cache_c.specs.Standing.{HasDone, cache_words}
 use Rattle.cache_c.proofs.Standing.{left_begun, done_begun}
 use Rattle.cache_c.proofs.cache.Cache.count.Goals as goal
 
@@ -20,5 +20,5 @@ returns-clause-done c =
     record {
       reply = reply_of c.inc-answer.result;
       done = subst Done is_x (done_begun c.begin.ensures.begun c.inc-answer.ensures.does);
-      told = c.counted.ensures (words_of new);
+      told = c.counted.ensures (cache_words new);
     }

@@ -10,14 +10,14 @@ use Rattle.entry_slots.specs.declared.slots.EntrySlots.{EntrySlots}
 use Rattle.entry_slots.specs.Standing.{entries}
 use Rattle.cache_core.specs.CoreCache.{cache_of}
 use Rattle.cache_info.proofs.InfoAnswers.{gaps_are}
-use Rattle.cache_c.specs.Standing.{words_of}
+use Rattle.cache_c.specs.Standing.{cache_words}
 use Rattle.cache_c.proofs.cache.Cache.counts.Goals as goal
 
 pub returns-clause-counts : goal.returns-clause-counts
 returns-clause-counts c =
     let core = c.args.self.now.core in
     let all = cache_of core in
-    let ws = words_of c.args.self.now in
+    let ws = cache_words c.args.self.now in
     let slots = c.slots-slots.ensures.value in
     let words = c.from.ensures ∙ c.row_words-row_words.ensures.words ∙ ap (λ (e : EntrySlots). sum_by (λ (row : Row). row.size) (entries e).rows) slots in
     let runs : List ℕ → Sma → List Extent = λ l s. free_runs s.from s.to s.piece (live_blocks l s.from) in

@@ -6,7 +6,7 @@ use Rattle.apcu_model.specs.Expiry.{live_row}
 use Rattle.entry_slots.specs.Standing.{entries}
 use Rattle.cache_core.specs.CoreCache.{cache_of}
 use Rattle.cache_info.proofs.InfoAnswers.{live_at, live_listed}
-use Rattle.cache_c.specs.Standing.{words_of}
+use Rattle.cache_c.specs.Standing.{cache_words}
 use Rattle.cache_c.specs.Asked.{is_short}
 use Rattle.cache_c.specs.Told.{IsFoundBy, IsRowBy, found_row}
 use Rattle.cache_c.proofs.cache.Cache.find.Goals as goal
@@ -24,7 +24,7 @@ returns-clause-row c =
     let key = c.args.key.now in
     let here = live_at key c.args.t all (c.in-Some.at, c.in-Some._value) (sym c.in-Some.is ∙ c.peek.ensures.found) in
     let told = c.row.ensures.told here.row (record { there = here.there; place = here.place }) in
-    let placed = subst (λ n. IsRowBy (words_of c.row.new.self) n here.row c.row.result) c.slot_of-slot.ensures.slot told in
+    let placed = subst (λ n. IsRowBy (cache_words c.row.new.self) n here.row c.row.result) c.slot_of-slot.ensures.slot told in
     let short : is_short key ≡ true = grind (arith, nat_tests, c.if-key-ge4294967296.false) in
     let live : found_row key c.args.t all ≡ Some here.row = ap (λ b. if b then live_row key c.args.t all else None) short ∙ here.live in
-    subst (λ (o : Option Row). IsFoundBy (words_of c.row.new.self) all key o c.row.result) (sym live) placed
+    subst (λ (o : Option Row). IsFoundBy (cache_words c.row.new.self) all key o c.row.result) (sym live) placed

@@ -10,13 +10,13 @@ use Rattle.entry_slots.specs.Standing.{entries}
 use Rattle.cache_core.specs.CoreCache.{cache_of}
 use Rattle.cache_info.proofs.GapRuns.{pair_of}
 use Rattle.cache_info.proofs.InfoAnswers.{gaps_are}
-use Rattle.cache_c.specs.Standing.{words_of}
+use Rattle.cache_c.specs.Standing.{cache_words}
 use Rattle.cache_c.proofs.cache.Cache.gap.Goals as goal
 
 pub returns-clause-gap : goal.returns-clause-gap
 returns-clause-gap c =
     let core = c.args.self.now.core in
-    let ws = words_of c.args.self.now in
+    let ws = cache_words c.args.self.now in
     let runs : Sma → List Extent = λ s. free_runs s.from s.to s.piece (live_blocks ws s.from) in
     let same = ap runs (c.sma.ensures ∙ ap (λ (e : EntrySlots). e.sma) c.slots.ensures.value) ∙ gaps_are core.slots ws nothing_aside (cache_of core) (entries core.slots) c.requires.stand.alone.stand c.requires.stand.alone.whole in
     c.gap_from.ensures.value ∙ ap (λ (l : List Extent). option_map pair_of (find (λ run. nat_le c.args.from run.place) l)) same

@@ -2,7 +2,7 @@ use Rattle.std.proofs.Common.{◌≡◌, ◌++◌, ◌≤◌, length, take, drop
 use Rattle.apcu_model.specs.Infos.{gaps_of}
 use Rattle.cache_core.specs.CoreCache.{cache_of}
 use Rattle.cache_info.proofs.GapRuns.{left_from}
-use Rattle.cache_c.specs.Standing.{IsKept}
+use Rattle.cache_c.specs.Standing.{StandsUnchanged}
 use Rattle.cache_c.specs.Told.{gap_told}
 use Rattle.cache_c.proofs.cache.Cache.list_gaps.Given as goal
 
@@ -13,5 +13,5 @@ invariant-loop-i l = record {
   others : drop l.i l.out ≡ drop l.i l.fn.out;
   len : length l.out ≡ length l.fn.out;
   low : l.i ≤ length l.out;
-  same : IsKept l.fn.self l.self;
+  same : StandsUnchanged l.fn.self l.self;
 }

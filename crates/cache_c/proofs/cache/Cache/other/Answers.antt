@@ -1,7 +1,7 @@
 use Rattle.std.proofs.Common.{◌∙◌, ℕ, ◌+◌, [], List, ap, sym, subst, arith}
 use Rattle.seg_words.specs.Blocks.{image_place}
 use Rattle.value_image.specs.Texts.{IsToldImage}
-use Rattle.cache_c.specs.Standing.{words_of}
+use Rattle.cache_c.specs.Standing.{cache_words}
 use Rattle.cache_c.proofs.Standing.{words_short}
 use Rattle.cache_c.proofs.HeldRows.{row_block}
 use Rattle.cache_c.proofs.cache.Cache.other.Goals as goal
@@ -21,13 +21,13 @@ text-requires c =
     let row = c.requires.there.0 in
     let b = row_block c.args.self.now c.args.key.now c.args.at row c.requires.stand c.requires.there.1 in
     let e = ap (λ (n : ℕ). c.args.at + 12 + n) c.words_in.ensures ∙ b.place in
-    record { image = (row.graph, subst (λ (n : ℕ). IsToldImage (words_of c.args.self.now) [] n row.graph) (sym e) b.told) }
+    record { image = (row.graph, subst (λ (n : ℕ). IsToldImage (cache_words c.args.self.now) [] n row.graph) (sym e) b.told) }
 
 pub returns-clause-told : goal.returns-clause-told
 returns-clause-told c = λ row is none.
     let b = row_block c.args.self.now c.args.key.now c.args.at row c.requires.stand is in
     let e = ap (λ (n : ℕ). c.args.at + 12 + n) c.words_in.ensures ∙ b.place in
-    c.text.ensures.told row.graph (subst (λ (n : ℕ). IsToldImage (words_of c.args.self.now) [] n row.graph) (sym e) b.told) none
+    c.text.ensures.told row.graph (subst (λ (n : ℕ). IsToldImage (cache_words c.args.self.now) [] n row.graph) (sym e) b.told) none
 
 pub returns-clause-place : goal.returns-clause-place
 returns-clause-place c = λ text.

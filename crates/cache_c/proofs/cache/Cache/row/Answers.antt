@@ -9,7 +9,7 @@ use Rattle.entry_slots.specs.RowPlaces.{place_from}
 use Rattle.entry_slots.proofs.KeyCopies.{key_at}
 use Rattle.entry_slots.proofs.RowBlocks.{home_listed}
 use Rattle.value_image.specs.Texts.{IsToldImage}
-use Rattle.cache_c.specs.Standing.{words_of}
+use Rattle.cache_c.specs.Standing.{cache_words}
 use Rattle.cache_c.proofs.ToldRows.{head_image, row_told}
 use Rattle.cache_c.proofs.cache.Cache.row.Goals as goal
 
@@ -34,7 +34,7 @@ overflow_add-result c =
 pub returns-clause-told : goal.returns-clause-told
 returns-clause-told c = λ row is.
     let core = c.args.self.now.core in
-    let ws = words_of c.args.self.now in
+    let ws = cache_words c.args.self.now in
     let there = subst (λ (e : EntrySlots). IsListed (entries e) c.args.at row) (sym c.slots.ensures.value) is in
     let head = c.head-head.ensures.head row there in
     let sound = c.standing_laws.ensures.sound core.slots ws nothing_aside (entries core.slots) c.requires.stand.alone.stand in

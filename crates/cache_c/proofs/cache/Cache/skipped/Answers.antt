@@ -5,7 +5,7 @@ use Rattle.entry_slots.specs.Entries.{listed, FollowsInChain}
 use Rattle.entry_slots.specs.Standing.{entries}
 use Rattle.cache_core.specs.declared.cache.Core.{Core}
 use Rattle.cache_core.specs.CoreCache.{cache_of}
-use Rattle.cache_c.specs.Standing.{words_of}
+use Rattle.cache_c.specs.Standing.{cache_words}
 use Rattle.cache_c.specs.Told.{rows_of}
 use Rattle.cache_c.proofs.Standing.{stands_kept}
 use Rattle.cache_c.proofs.RowLists.{lists_are, row_here, row_end, row_next, none_past}
@@ -24,7 +24,7 @@ returns-then-at-eq0-clause-place c =
     let i = c.loop-passed.invariant in
     let rows = rows_of (cache_of old.core) c.args.slot in
     let laws = c.standing_laws.ensures in
-    let none = row_end laws.walked laws.sound old.core.slots (words_of old) nothing_aside s c.requires.stand.alone.stand c.args.slot c.loop-passed._passed c.loop-passed.at rows (lists_are s (cache_of old.core) c.args.slot c.requires.stand.alone.whole) (sym c.if-at-eq0.true ∙ i.at) in
+    let none = row_end laws.walked laws.sound old.core.slots (cache_words old) nothing_aside s c.requires.stand.alone.stand c.args.slot c.loop-passed._passed c.loop-passed.at rows (lists_are s (cache_of old.core) c.args.slot c.requires.stand.alone.whole) (sym c.if-at-eq0.true ∙ i.at) in
     sym (ap first_place (none_past rows c.loop-passed._passed c.args.skip none i.low))
 
 pub after-at-requires-clause-stand : goal.after-at-requires-clause-stand
@@ -37,7 +37,7 @@ after-at-requires-clause-there c =
     let i = c.loop-passed.invariant in
     let rows = rows_of (cache_of old.core) c.args.slot in
     let laws = c.standing_laws.ensures in
-    let here = row_here laws.walked laws.sound old.core.slots (words_of old) nothing_aside s c.requires.stand.alone.stand c.args.slot c.loop-passed._passed c.loop-passed.at rows (lists_are s (cache_of old.core) c.args.slot c.requires.stand.alone.whole) i.at c.if-at-eq0.false in
+    let here = row_here laws.walked laws.sound old.core.slots (cache_words old) nothing_aside s c.requires.stand.alone.stand c.args.slot c.loop-passed._passed c.loop-passed.at rows (lists_are s (cache_of old.core) c.args.slot c.requires.stand.alone.whole) i.at c.if-at-eq0.false in
     subst (λ (core : Core). has_place c.loop-passed.at (listed (entries core.slots)) ≡ true) (sym i.same.core) here.in_listed
 
 pub loop-passed-preserved : goal.loop-passed-preserved
@@ -49,13 +49,13 @@ loop-passed-preserved c =
     let rows = rows_of (cache_of old.core) c.args.slot in
     let are = lists_are s (cache_of old.core) c.args.slot c.requires.stand.alone.whole in
     let laws = c.standing_laws.ensures in
-    let here = row_here laws.walked laws.sound old.core.slots (words_of old) nothing_aside s c.requires.stand.alone.stand c.args.slot c.loop-passed._passed at rows are i.at c.if-at-eq0.false in
+    let here = row_here laws.walked laws.sound old.core.slots (cache_words old) nothing_aside s c.requires.stand.alone.stand c.args.slot c.loop-passed._passed at rows are i.at c.if-at-eq0.false in
     let n = c.after-at.ensures in
     let next = c.after-at.result in
     let chain = subst (λ (core : Core). FollowsInChain (entries core.slots) at next) i.same.core n.row in
     let removed = subst (λ (core : Core). FollowsIn (entries core.slots).removed at next) i.same.core n.removed in
     record {
-      at = row_next laws.walked laws.sound old.core.slots (words_of old) nothing_aside s c.requires.stand.alone.stand c.args.slot c.loop-passed._passed at rows are next chain removed here;
+      at = row_next laws.walked laws.sound old.core.slots (cache_words old) nothing_aside s c.requires.stand.alone.stand c.args.slot c.loop-passed._passed at rows are next chain removed here;
       low = omega (arith, c.loop-passed-test.true);
       same = record { core = n.same.core ∙ i.same.core; words = n.same.words ∙ i.same.words; aside = n.same.aside ∙ i.same.aside };
     }

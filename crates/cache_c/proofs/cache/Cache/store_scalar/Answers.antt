@@ -2,8 +2,8 @@ use Rattle.std.proofs.Common.{◌≡◌, ◌∙◌, List, Option, Some, sym, sub
 use Rattle.php_graph.specs.declared.kind.Kind.{Kind}
 use Rattle.apcu_model.specs.declared.request.Reply.TheVariants as replies
 use Rattle.apcu_model.specs.Sequential.{is_stored}
-use Rattle.cache_c.specs.Standing.{words_of}
-use Rattle.cache_c.specs.Asked.{scalar_value, stored, plain_answer, IsAnswered}
+use Rattle.cache_c.specs.Standing.{cache_words}
+use Rattle.cache_c.specs.Asked.{scalar_value, store_if_value, plain_answer, IsAnswered}
 use Rattle.cache_c.proofs.Standing.{left_begun, done_begun}
 use Rattle.cache_c.proofs.cache.Cache.store_scalar.Goals as goal
 
@@ -14,5 +14,5 @@ pub returns-clause-answered : goal.returns-clause-answered
 returns-clause-answered c =
     let new = record c.begin.new.self { core = c.store-answer.new.self; words = c.store-answer.new.seg } in
     let value : Some c.in-Some.value ≡ scalar_value c.args.kind c.args.number = sym c.in-Some.is ∙ c.scalar_from.ensures in
-    subst (λ (v : Option (List Kind)). IsAnswered c.args.self.now new c.args.t (stored c.args.key.now c.args.ttl c.args.exclusive v) (plain_answer c.stored.result)) value
-    (record { reply = replies.Flag (is_stored c.store-answer.result); done = done_begun c.begin.ensures.begun c.store-answer.ensures.does; told = c.stored.ensures (words_of new) })
+    subst (λ (v : Option (List Kind)). IsAnswered c.args.self.now new c.args.t (store_if_value c.args.key.now c.args.ttl c.args.exclusive v) (plain_answer c.stored.result)) value
+    (record { reply = replies.Flag (is_stored c.store-answer.result); done = done_begun c.begin.ensures.begun c.store-answer.ensures.does; told = c.stored.ensures (cache_words new) })

@@ -1,6 +1,6 @@
 use Rattle.apcu_model.specs.declared.request.Reply.TheVariants as replies
 use Rattle.apcu_model.specs.Sequential.{is_stored}
-use Rattle.cache_c.specs.Standing.{words_of}
+use Rattle.cache_c.specs.Standing.{cache_words}
 use Rattle.cache_c.proofs.Standing.{left_begun, done_begun}
 use Rattle.cache_c.proofs.cache.Cache.store_text.Goals as goal
 
@@ -11,5 +11,5 @@ pub returns-clause-done : goal.returns-clause-done
 returns-clause-done c = record {
   reply = replies.Flag (is_stored c.store_bytes.result);
   done = done_begun c.begin.ensures.begun c.store_bytes.ensures.does;
-  told = c.stored.ensures (words_of (record c.begin.new.self { core = c.store_bytes.new.self; words = c.store_bytes.new.seg }));
+  told = c.stored.ensures (cache_words (record c.begin.new.self { core = c.store_bytes.new.self; words = c.store_bytes.new.seg }));
 }

@@ -4,7 +4,7 @@ use Rattle.std.specs.Prelude.{slice_set}
 use Rattle.apcu_model.specs.Asking.{asked}
 use Rattle.apcu_model.specs.declared.conf.Conf.{Conf}
 use Rattle.apcu_model.specs.Cache.{Cache}
-use Rattle.mark_play.specs.Asks.{MayAsk}
+use Rattle.mark_play.specs.Asks.{MayBeAsked}
 use Rattle.apcu_model.specs.History.{Stage, reply_in, after_event}
 use Rattle.apcu_model.specs.Sequential.{cache_after, reply_to}
 use Rattle.cache_core.specs.CoreCache.{cache_of}
@@ -28,7 +28,7 @@ answer-requires-clause-may c =
     let at = subst (λ (l : List (Option Window)). IsReached ghosts c.self.inside.core c.self.inside.words l c.self.inside.reached.stage c.self.inside.left) (sym c.deref.ensures.value) c.self.invariant in
     let b = c.begin_event.ensures c.self.inside.reached.stage c.self.inside.left at in
     let shape : c.begin_event.new.core.conf ≡ c.args.self.now.stage.cache.conf = ap (λ (x : Cache). x.conf) b.at.cache ∙ ap (λ (r : Replayed). r.stage.cache.conf) c.self.view_is in
-    subst (λ (k : Conf). MayAsk k c.args.search.now (asked c.args.ask)) (sym shape) c.requires.may
+    subst (λ (k : Conf). MayBeAsked k c.args.search.now (asked c.args.ask)) (sym shape) c.requires.may
 
 pub answer-requires-clause-ready : goal.answer-requires-clause-ready
 answer-requires-clause-ready c =

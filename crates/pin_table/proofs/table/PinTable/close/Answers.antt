@@ -3,14 +3,14 @@ use mathlib.Core.Option.{some}
 use lib.ListN.{get_elem?}
 use Rattle.pin_table.specs.Lists.{known_list}
 use Rattle.atomic_table.proofs.Lists.{at_longer}
-use Rattle.pin_table.specs.Views.{is_among}
+use Rattle.pin_table.specs.Views.{has_worker}
 use Rattle.pin_table.proofs.PassLists.{among_front, get_known}
 use Rattle.pin_table.proofs.table.PinTable.close.Goals as goal
 
 pub dissolve-requires-clause-every : goal.dissolve-requires-clause-every
 dissolve-requires-clause-every c = λ w h.
     let every = c.requires.every w (omega (arith, h, c.gather.ensures.made)) in
-    subst (λ ps. is_among w ps ≡ true) (sym c.gather.ensures.closed) (among_front (known_list c.args.ended.ended) c.args.seat.state.log.closed w every)
+    subst (λ ps. has_worker w ps ≡ true) (sym c.gather.ensures.closed) (among_front (known_list c.args.ended.ended) c.args.seat.state.log.closed w every)
 
 pub returns-clause-seen : goal.returns-clause-seen
 returns-clause-seen c = λ k b h.

@@ -11,7 +11,7 @@ use Rattle.pin_table.specs.declared.views.View.{View}
 use Rattle.pin_table.specs.declared.views.View.TheVariants.{Writer, Copying}
 use Rattle.pin_table.specs.Values.{WriterView}
 use Rattle.pin_table.specs.Pins.{IsBlock, MeetsNone, AreApart}
-use Rattle.pin_table.specs.Views.{state_of, reader_of, in_hand, pinning_at, copied, reader_after, on_state}
+use Rattle.pin_table.specs.Views.{state_of, copying_reader, in_hand, pinning_at, copied, reader_after, on_state}
 use Rattle.pin_table.proofs.WindowLists.{named_there}
 use Rattle.pin_table.proofs.RuleSteps as ruled
 use Rattle.pin_table.proofs.table.PinTable.copy_out.Goals as goal
@@ -53,7 +53,7 @@ writes : {A : Type 0} (f : WriterState → WriterState) (was now : View × List 
 writes f was now d is before = rw (is, before) refl
 
 -- the new pass copies
-copies : {A : Type 0} (now : View × List A) (r : Reader) → now ≡ (Copying r, []) → now ≡ (Copying (reader_of now.0), [])
+copies : {A : Type 0} (now : View × List A) (r : Reader) → now ≡ (Copying r, []) → now ≡ (Copying (copying_reader now.0), [])
 copies now r is = rw is refl
 
 pub invariant_of-seat : goal.invariant_of-seat
@@ -79,8 +79,8 @@ pub invariant_of-result : goal.invariant_of-result
 invariant_of-result g c =
     let d : state_of c.seat.inside.seat.me.0 ≡ c.args.seat.now.state = ap (λ (w : WriterView). w.state) c.seat.view_is in
     let back : c.args.block + 11 - 11 ≡ c.args.block = omega arith in
-    let made : reader_of c.split_seat-own.result.me.0 ≡ reader_after (pinning_at c.args.seat.now.state c.args.block) g.Q.Saying.event =
-    ap (λ m. reader_of m.0) c.split_seat-own.ensures.4 ∙ ap (λ m. reader_after (state_of m.0) g.Q.Saying.event) c.fetch_add.ensures.2
+    let made : copying_reader c.split_seat-own.result.me.0 ≡ reader_after (pinning_at c.args.seat.now.state c.args.block) g.Q.Saying.event =
+    ap (λ m. copying_reader m.0) c.split_seat-own.ensures.4 ∙ ap (λ m. reader_after (state_of m.0) g.Q.Saying.event) c.fetch_add.ensures.2
     ∙ ap (λ (at : ℕ). reader_after (pinning_at (state_of c.seat.inside.seat.me.0) at) g.Q.Saying.event) back
     ∙ ap (λ (v : WriterState). reader_after (pinning_at v c.args.block) g.Q.Saying.event) d in
     let words : List ℕ = c.args.seat.now.state.words in
@@ -111,6 +111,6 @@ pub returns-clause-copy : goal.returns-clause-copy
 returns-clause-copy g c =
     let d : state_of c.seat.inside.seat.me.0 ≡ c.args.seat.now.state = ap (λ (w : WriterView). w.state) c.seat.view_is in
     let back : c.args.block + 11 - 11 ≡ c.args.block = omega arith in
-    ap (λ m. reader_of m.0) c.split_seat-own.ensures.4 ∙ ap (λ m. reader_after (state_of m.0) g.Q.Saying.event) c.fetch_add.ensures.2
+    ap (λ m. copying_reader m.0) c.split_seat-own.ensures.4 ∙ ap (λ m. reader_after (state_of m.0) g.Q.Saying.event) c.fetch_add.ensures.2
     ∙ ap (λ (at : ℕ). reader_after (pinning_at (state_of c.seat.inside.seat.me.0) at) g.Q.Saying.event) back
     ∙ ap (λ (v : WriterState). reader_after (pinning_at v c.args.block) g.Q.Saying.event) d

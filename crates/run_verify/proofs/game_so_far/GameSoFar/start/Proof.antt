@@ -26,16 +26,16 @@ use denote.Triple.Spec.{Meets, triple_of}
 use denote.Triple.Table.{entered}
 use denote.Triple.Walked.{says, Stays, stay_dropped, walk_of, ends_at, walk_Meets, Goes-dropped}
 use Rattle.run_verify.proofs.FieldlessStruct.{none, none_made}
-use Rattle.run_verify.specs.contracts.played.Played as Log
+use Rattle.run_verify.specs.contracts.game_so_far.GameSoFar as Log
 use Rattle.run_verify.specs.Games.{game_begun}
 use Rattle.script_read.specs.Clock.{all_timed}
 use Rattle.apcu_model.specs.contracts.conf.Conf as First
 use Rattle.apcu_model.specs.contracts.conf.Clock as Second
 use Rattle.script_read.specs.contracts.script.Scripts as Third
-use Rattle.run_verify.specs.contracts.played.Played.start as F
-use Rattle.run_verify.specs.contracts.played.Played.start.Key.{name as #self}
-use Rattle.run_verify.proofs.played.Played.start.Statement as stated
-use Rattle.run_verify.proofs.played.Played.start.Code as code
+use Rattle.run_verify.specs.contracts.game_so_far.GameSoFar.start as F
+use Rattle.run_verify.specs.contracts.game_so_far.GameSoFar.start.Key.{name as #self}
+use Rattle.run_verify.proofs.game_so_far.GameSoFar.start.Statement as stated
+use Rattle.run_verify.proofs.game_so_far.GameSoFar.start.Code as code
 
 abbrev function : Fn
 function = code.function

@@ -26,13 +26,13 @@ use denote.Triple.Spec.{Meets, triple_of}
 use denote.Triple.Table.{entered}
 use denote.Triple.Walked.{says, Stays, stay_dropped, walk_of, ends_at, walk_Meets, Goes-dropped}
 use Rattle.run_verify.proofs.FieldlessStruct.{none, none_made}
-use Rattle.run_verify.specs.contracts.played.Played as Log
+use Rattle.run_verify.specs.contracts.game_so_far.GameSoFar as Log
 use Rattle.run_verify.specs.Games.{game_after}
 use Rattle.apcu_model.specs.contracts.journal.Mark as Note
-use Rattle.run_verify.specs.contracts.played.Played.then as F
-use Rattle.run_verify.specs.contracts.played.Played.then.Key.{name as #self}
-use Rattle.run_verify.proofs.played.Played.then.Statement as stated
-use Rattle.run_verify.proofs.played.Played.then.Code as code
+use Rattle.run_verify.specs.contracts.game_so_far.GameSoFar.then as F
+use Rattle.run_verify.specs.contracts.game_so_far.GameSoFar.then.Key.{name as #self}
+use Rattle.run_verify.proofs.game_so_far.GameSoFar.then.Statement as stated
+use Rattle.run_verify.proofs.game_so_far.GameSoFar.then.Code as code
 
 abbrev function : Fn
 function = code.function

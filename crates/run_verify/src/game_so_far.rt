@@ -11,27 +11,27 @@ use std::marker::Model;
 
 /// Where the marks so far have led. It exists only in proofs.
 #[derive(Drop)]
-pub(crate) struct Played {
+pub(crate) struct GameSoFar {
     /// It goes on by `then` alone.
     pub ghost game: { Game },
 }
 
-impl Model for Played {
+impl Model for GameSoFar {
     ghost also_owns = { λ _. ftrue };
 }
 
-impl Played {
+impl GameSoFar {
     /// No mark was played of these scripts, as the clock sees them, on a cache of this shape.
-    pub(crate) fn start(_conf: &Conf, _clock: &Clock, _scripts: &Scripts) -> Played
+    pub(crate) fn start(_conf: &Conf, _clock: &Clock, _scripts: &Scripts) -> GameSoFar
         ensures { result.game ≡ game_begun _conf.now (all_timed _clock.now _scripts.now) }
     {
-        Played {}
+        GameSoFar {}
     }
 
     /// After one mark more, if it can be played.
-    pub(crate) fn then(&self, _mark: &Mark) -> Played
+    pub(crate) fn then(&self, _mark: &Mark) -> GameSoFar
         ensures { result.game ≡ game_after self.now.game _mark.now }
     {
-        Played {}
+        GameSoFar {}
     }
 }
