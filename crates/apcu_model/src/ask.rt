@@ -1,3 +1,5 @@
+//! What a worker asks, lent.
+
 use crate::generator::Gen;
 use crate::searching::{Fields, List, Pattern};
 use php_graph::Graph;

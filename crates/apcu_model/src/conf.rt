@@ -1,3 +1,5 @@
+//! The shape of a cache, its limits, and what a call's moment is.
+
 ghost use Rattle.std.specs.Prelude.{◌≡◌, ◌↔◌, IsTrue};
 ghost use Rattle.apcu_model.specs.Conf.{IsGood, IsUsable, most_of, piece_of};
 ghost use Rattle.apcu_model.specs.declared.conf.TheConstants.{USUAL_WORDS};

@@ -1,3 +1,5 @@
+//! A row of the plain cache.
+
 ghost use Rattle.std.specs.Prelude.{◌≡◌, ◌+◌, ◌<◌, nat_lt};
 ghost use Rattle.apcu_model.specs.Cache.{extent_of, has_key};
 ghost use Rattle.apcu_model.specs.Counters.{with_integer_at};

@@ -1,3 +1,5 @@
+//! What an iterator gives: a row's fields, a list of such rows, and a step.
+
 ghost use Rattle.std.specs.Prelude.{◌≡◌, ◌<◌, ◌^◌, ◌==◌, ◌++◌, ◌-◌, [], ◌∷◌, length, is_ok};
 ghost use Rattle.std.specs.Prelude.{if◌then◌else◌, slice_get, Some};
 

@@ -1,3 +1,5 @@
+//! A journal: the order in which events took effect.
+
 ghost use Rattle.std.specs.Prelude.{◌≡◌, ◌+◌, ◌-◌, ◌<◌, [], ◌∷◌, ◌++◌, length, ◌==◌, IfOk};
 ghost use Rattle.std.specs.Prelude.{slice_get, Some};
 

@@ -1,3 +1,5 @@
+//! What stays true along events, whatever they ask.
+
 ghost use Rattle.apcu_model.specs.Laws.{CountLaws, EventsKeep, HeldAlike, OneEventMore};
 ghost use Rattle.apcu_model.specs.Laws.{RowsKeepNumbers, RowsStayApart};
 ghost use Rattle.std.specs.Prelude.{◌≡◌, ◌↔◌, ◌<◌, ◌≤◌, ◌&&◌, ℕ, Bool, true, false, List, [], ◌∷◌};

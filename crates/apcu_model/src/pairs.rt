@@ -1,3 +1,5 @@
+//! The keys and values of a store of several.
+
 ghost use Rattle.std.specs.Prelude.{◌≡◌, ◌<◌, ◌^◌, ◌==◌, ◌++◌, ◌-◌, [], ◌∷◌, length, is_ok};
 ghost use Rattle.std.specs.Prelude.{if◌then◌else◌, slice_get, Some};
 

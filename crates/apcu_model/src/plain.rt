@@ -1,3 +1,5 @@
+//! The plain cache of one thread: the program that computes the definition.
+
 ghost use Rattle.std.specs.Prelude.{◌≡◌, ℕ, ◌<◌, ◌^◌, false, [], length, MatchOption};
 ghost use Rattle.std.specs.Prelude.{IfOk, OnOk, OnErr};
 ghost use Rattle.apcu_model.specs.Cache.{counts_of, empty_cache};

@@ -1,3 +1,5 @@
+//! Requests, events and replies.
+
 use crate::ask::Ask;
 use crate::generator::Gen;
 use crate::items::Chunk;

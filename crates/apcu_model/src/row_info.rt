@@ -1,3 +1,5 @@
+//! What the information calls tell of a row and of the cache.
+
 use php_graph::Bytes;
 
 /// What a cache keeps of a row beside its key and its value, as the information calls tell it.

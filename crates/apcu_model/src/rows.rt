@@ -1,3 +1,5 @@
+//! The rows of the plain cache: what finds, drops and puts one.
+
 ghost use Rattle.std.specs.Prelude.{◌≡◌, ◌+◌, ◌<◌, ◌≤◌, ◌&&◌, not, true, false, if◌then◌else◌};
 ghost use Rattle.std.specs.Prelude.{length};
 ghost use Rattle.std.specs.Prelude.{map, filter, find, vec_len, vec_capacity, None, Some};

@@ -1,3 +1,5 @@
+//! What an iterator searches by, which rows it goes over, and what it tells of them.
+
 use php_graph::Bytes;
 
 /// A pattern that keys are searched by, without the two `/` round it: the text is in the syntax of

@@ -1,3 +1,5 @@
+//! The rows and counts of the plain cache, and how a row comes in.
+
 ghost use Rattle.std.specs.Prelude.{◌≡◌, ℕ, ◌+◌, ◌<◌, ◌≤◌, ⊤, true, false, [], is_some};
 ghost use Rattle.std.specs.Prelude.{vec_len, vec_capacity, MatchOption, IfOk, OnOk, OnErr};
 ghost use Rattle.apcu_model.specs.declared.request.Reply.TheVariants.{Absent, Found};

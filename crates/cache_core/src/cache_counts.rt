@@ -1,3 +1,5 @@
+//! What a cache counts.
+
 ghost use Rattle.std.specs.Prelude.{◌≡◌, if◌then◌else◌};
 ghost use Rattle.apcu_model.specs.Cache.{risen};
 ghost use Rattle.cache_core.specs.Counting.{risen_by};

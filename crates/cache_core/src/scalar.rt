@@ -1,3 +1,5 @@
+//! Values that are answered at once, and what a look-up finds.
+
 ghost use Rattle.std.specs.Prelude.{◌≡◌, ℕ, List};
 ghost use Rattle.php_graph.specs.declared.kind.Kind.{Kind};
 ghost use Rattle.seg_words.specs.Kept.{Kept};

@@ -1,3 +1,5 @@
+//! How counting and generating came out.
+
 /// How counting came out.
 #[derive(Clone, Copy, Debug, PartialEq, Eq)]
 pub enum IncAnswer {

@@ -1,3 +1,5 @@
+//! Counting up and down, `apcu_inc` and `apcu_dec`.
+
 ghost use Rattle.std.specs.Prelude.{◌≡◌, ◌<◌, ◌^◌, false, length, IfSome};
 ghost use Rattle.seg_words.specs.Kept.{KeptBeside};
 ghost use Rattle.apcu_model.specs.declared.request.Request.TheVariants.{Inc};

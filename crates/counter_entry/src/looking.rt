@@ -1,3 +1,5 @@
+//! The look-up that counting and swapping begin with.
+
 ghost use Rattle.std.specs.Prelude.{◌≡◌, ◌<◌, ◌^◌, length};
 ghost use Rattle.seg_words.specs.Kept.{Kept};
 ghost use Rattle.apcu_model.specs.Expiry.{live_row};

@@ -1,3 +1,5 @@
+//! Setting an integer that is the expected one, `apcu_cas`.
+
 ghost use Rattle.std.specs.Prelude.{◌≡◌, ◌<◌, ◌^◌, false, length};
 ghost use Rattle.seg_words.specs.Kept.{KeptBeside};
 ghost use Rattle.apcu_model.specs.declared.request.Request.TheVariants.{Cas};

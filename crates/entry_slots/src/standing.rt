@@ -1,3 +1,5 @@
+//! The ghost of the entries: what the words stand for.
+
 ghost use Rattle.std.specs.Prelude.{◌≡◌};
 ghost use Rattle.std.specs.Borrow.{ftrue};
 ghost use Rattle.entry_slots.specs.Entries.{Entries, no_entries};

@@ -1,4 +1,4 @@
-// Points of a worker's script that a test may wait at.
+//! Points of a worker's script that a test may wait at.
 
 /// A point that a worker reaches. The number is that of the call in its script, from 0.
 #[derive(Clone, Copy, Debug, PartialEq, Eq)]

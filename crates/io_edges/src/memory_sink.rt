@@ -1,4 +1,5 @@
-// A sink in memory.
+//! A sink in memory.
+
 ghost use Rattle.std.specs.Prelude.{◌≡◌, ◌<◌, ◌≤◌, length, Some, [], IfOk};
 ghost use Rattle.std.specs.Io.KnownBytes.{append_known};
 ghost use Rattle.io_edges.specs.Writing.{bytes_taken, TakesWithin, CountsWriteFault};

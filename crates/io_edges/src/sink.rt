@@ -1,4 +1,5 @@
-// Where bytes go.
+//! Where bytes go.
+
 ghost use Rattle.std.specs.Prelude.{◌≡◌, ℕ, ◌<◌, List, length, Option};
 ghost use Rattle.std.specs.Io.KnownBytes.{append_known};
 ghost use Rattle.io_edges.specs.Writing.{bytes_taken, TakesWithin, CountsWriteFault};

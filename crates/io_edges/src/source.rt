@@ -1,4 +1,5 @@
-// Where bytes come from.
+//! Where bytes come from.
+
 ghost use Rattle.std.specs.Prelude.{◌≡◌, ℕ, ◌<◌, List, length, Option};
 ghost use Rattle.std.specs.Io.KnownBytes.{prepend_known};
 ghost use Rattle.io_edges.specs.Reading.{bytes_given, GivesWithin, EndsOnlyAtEnd, CountsReadFault};

@@ -1,4 +1,5 @@
-// All of some bytes, written to a sink.
+//! All of some bytes, written to a sink.
+
 ghost use Rattle.std.specs.Prelude.{◌≡◌, ◌<◌, ◌≤◌, ℕ, length, take, OnOk, OnErr};
 ghost use Rattle.std.specs.Io.KnownBytes.{append_known};
 ghost use Rattle.io_edges.specs.Faults.{Rose};

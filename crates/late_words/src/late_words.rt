@@ -1,3 +1,5 @@
+//! Words in memory of which those behind the last stored one are 0.
+
 ghost use Rattle.std.specs.Prelude.{◌≡◌, ℕ, ◌<◌, ◌≤◌, ◌^◌, length, replicate, IfOk};
 ghost use Rattle.std.specs.Prelude.{vec_capacity};
 ghost use Rattle.seg_words.specs.Windows.{nothing_aside};

@@ -1,3 +1,5 @@
+//! A row of bits that finds the last one before a place.
+
 ghost use Rattle.std.specs.Prelude.{◌≡◌, ◌≢◌, ℕ, ◌+◌, ◌-◌, ◌*◌, ◌^◌, ◌<◌, ◌≤◌, length};
 ghost use Rattle.std.specs.Prelude.{replicate, IfOk, MatchOption};
 ghost use Rattle.max_tree.specs.Bits.{bit};

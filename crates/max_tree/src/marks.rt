@@ -1,3 +1,5 @@
+//! Which numbers of 32 are large enough, as bits.
+
 ghost use Rattle.std.specs.Prelude.{◌≡◌, ◌+◌, ◌-◌, ◌^◌, ◌<◌, ◌≤◌, nat_le, length};
 ghost use Rattle.std.specs.Prelude.{slice_index};
 ghost use Rattle.max_tree.specs.Marks.{IsMarked};

@@ -1,3 +1,5 @@
+//! Pages of 32 numbers: the largest of each, and the first that is large enough.
+
 ghost use Rattle.std.specs.Prelude.{◌≡◌, ◌≢◌, ℕ, ◌+◌, ◌*◌, ◌/◌, ◌<◌, ◌≤◌, length, slice_index};
 ghost use Rattle.std.specs.Prelude.{slice_set, MatchOption, min};
 ghost use Rattle.max_tree.specs.Pages.{largest, page, IsPaged};

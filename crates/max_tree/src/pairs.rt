@@ -1,3 +1,5 @@
+//! A row of pairs of which one number is 0, or the first one is 2.
+
 ghost use Rattle.std.specs.Prelude.{◌≡◌, ◌≢◌, ℕ, ◌+◌, ◌-◌, ◌/◌, ◌%◌, ◌^◌, ◌<◌, ◌≤◌, ◌==◌, nat_le};
 ghost use Rattle.std.specs.Prelude.{length, min, if◌then◌else◌};
 ghost use Rattle.std.specs.Prelude.{slice_index, MatchOption};

@@ -1,3 +1,5 @@
+//! A row of numbers with what finds the first large and the last nonzero one.
+
 ghost use Rattle.std.specs.Prelude.{◌≡◌, ◌≢◌, ℕ, ◌+◌, ◌/◌, ◌^◌, ◌<◌, ◌≤◌, nat_le, length};
 ghost use Rattle.std.specs.Prelude.{replicate, slice_index, slice_set, IfOk, MatchOption};
 ghost use Rattle.std.specs.List.{position};

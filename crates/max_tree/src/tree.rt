@@ -1,3 +1,5 @@
+//! Pages of numbers under rows of tops: the first large number and the largest one.
+
 ghost use Rattle.std.specs.Prelude.{◌≡◌, ℕ, ◌+◌, ◌-◌, ◌/◌, ◌^◌, ◌<◌, ◌≤◌, nat_le, length};
 ghost use Rattle.std.specs.Prelude.{replicate, slice_index, slice_set, IfOk};
 ghost use Rattle.std.specs.List.{position};

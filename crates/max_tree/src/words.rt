@@ -1,3 +1,5 @@
+//! Rows of bits in words, 64 under each bit of the next row.
+
 ghost use Rattle.std.specs.Prelude.{◌≡◌, ◌≢◌, ℕ, ◌+◌, ◌*◌, ◌%◌, ◌^◌, ◌<◌, ◌≤◌, length, take};
 ghost use Rattle.std.specs.Prelude.{replicate, slice_index, MatchOption};
 ghost use Rattle.std.specs.Int.{bit_at};

@@ -1,3 +1,5 @@
+//! Bytes that are being written.
+
 ghost use Rattle.std.specs.Prelude.{◌≡◌, ℕ, ◌≤◌, List, [], ◌++◌, length, take, OnOk, OnErr};
 
 use std::alloc::{AllocError, Global};

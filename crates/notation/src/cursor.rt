@@ -1,3 +1,5 @@
+//! A place in bytes that are read.
+
 ghost use Rattle.std.specs.Prelude.{◌≡◌, ℕ, ◌+◌, ◌<◌, ◌≤◌, length, List, take, drop, slice_get};
 ghost use Rattle.std.specs.Prelude.{IsSome};
 ghost use Rattle.notation.specs.Place.{Standing, left};

@@ -1,3 +1,5 @@
+//! What is wrong with bytes, and where.
+
 ghost use Rattle.std.specs.Prelude.{◌≡◌};
 ghost use Rattle.notation.specs.declared.fault.Stop.TheVariants.{Memory, Fault as Found};
 

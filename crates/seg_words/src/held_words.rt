@@ -1,3 +1,5 @@
+//! Words in memory with a window for each worker, for one thread that plays them all.
+
 ghost use Rattle.std.specs.Prelude.{◌≡◌, ℕ, ◌+◌, ◌<◌, ◌≤◌, ◌^◌, true, false, not, [], length, drop};
 ghost use Rattle.std.specs.Prelude.{replicate, count_by, slice_set, IfOk};
 ghost use Rattle.seg_words.specs.Windows.{has, is_named, Frees, Refuses};

@@ -1,3 +1,5 @@
+//! The words of an entry's head.
+
 ghost use Rattle.std.specs.Prelude.{◌≡◌};
 ghost use Rattle.seg_words.specs.Layout.{words_in};
 

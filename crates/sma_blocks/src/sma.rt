@@ -1,3 +1,5 @@
+//! The shared memory allocator.
+
 ghost use Rattle.std.specs.Prelude.{◌≡◌, ◌≢◌, ℕ, ◌+◌, ◌-◌, ◌*◌, ◌/◌, ◌%◌, ◌^◌, ◌<◌, ◌≤◌, true};
 ghost use Rattle.std.specs.Prelude.{false, not, [], ◌∷◌, length, slice_index, slice_set};
 ghost use Rattle.std.specs.Prelude.{MatchOption, IfSome, IfNone, option_map, find, sum_by, nat_le};

@@ -1,3 +1,5 @@
+//! The words that a block or a gap is made of, and the links of gaps.
+
 ghost use Rattle.std.specs.Prelude.{◌≡◌, ◌≢◌, ℕ, ◌+◌, ◌-◌, ◌*◌, ◌<◌, ◌≤◌, ◌^◌, length, slice_index};
 ghost use Rattle.std.specs.Prelude.{slice_set, MatchOption};
 ghost use Rattle.seg_words.specs.Kept.{Kept, KeptBeside};

@@ -1,3 +1,5 @@
+//! Rows that are dropped by a rule, chain by chain.
+
 ghost use Rattle.std.specs.Prelude.{◌≡◌, ℕ, ◌+◌, ◌<◌, if◌then◌else◌, true, filter, Contains};
 ghost use Rattle.seg_words.specs.Kept.{Kept};
 ghost use Rattle.apcu_model.specs.Cache.{Row};

@@ -1,3 +1,5 @@
+//! Blocks that are given back once nobody copies from them.
+
 ghost use Rattle.std.specs.Prelude.{◌≡◌, ℕ, true, false, not};
 ghost use Rattle.seg_words.specs.Windows.{has, held_blocks};
 ghost use Rattle.entry_slots.specs.Lists.{has_place, only_at};

@@ -1,3 +1,5 @@
+//! How room is made for a block.
+
 ghost use Rattle.std.specs.Prelude.{◌≡◌, ◌%◌, ◌≤◌};
 ghost use Rattle.ttl_expunge.specs.Dropping.{spent_rows};
 ghost use Rattle.ttl_expunge.specs.ProbedRows.{AreHeld};

@@ -1,3 +1,5 @@
+//! The few gaps that a call tries before it asks the index.
+
 ghost use Rattle.std.specs.Prelude.{◌≡◌, ◌%◌, ◌≤◌, IfNone, IfSome, nat_le};
 ghost use Rattle.std.specs.List.{position};
 ghost use Rattle.seg_words.specs.Kept.{Kept};
