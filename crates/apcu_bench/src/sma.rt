@@ -33,7 +33,7 @@ fn pairs_over<S: Segment>(
     requires every { 1 ≤ every }
     requires closed { (at : ℕ) → is_named (S.aside seg.old).windows at ≡ false }
     requires ready { IsReady sma.old (S.words seg.old) (S.aside seg.old) }
-    requires live { AreLive (live_blocks (S.words seg.old) sma.old.from) places.old.items }
+    requires live { AreLive (live_blocks (S.words seg.old) sma.old.bounds.from) places.old.items }
 {
     if !fill::lay_out(sma, seg, places, units, every)? {
         return Ok([u64::MAX; 2]);
@@ -55,7 +55,8 @@ fn pairs_and_walk(
     requires every { 1 ≤ every }
     requires ready { IsReady sma.old (⟦<VecWords as WordsIn>⟧.words seg.old)
         (⟦<VecWords as WordsIn>⟧.aside seg.old) }
-    requires live { AreLive (live_blocks (⟦<VecWords as WordsIn>⟧.words seg.old) sma.old.from)
+    requires live { AreLive
+        (live_blocks (⟦<VecWords as WordsIn>⟧.words seg.old) sma.old.bounds.from)
         places.old.items }
 {
     let [near, far] = pairs_over(rt, sma, seg, places, units, every)?;
@@ -75,7 +76,7 @@ fn keep_over<S: Segment>(
     requires every { 1 ≤ every }
     requires closed { (at : ℕ) → is_named (S.aside seg.old).windows at ≡ false }
     requires ready { IsReady sma.old (S.words seg.old) (S.aside seg.old) }
-    requires live { AreLive (live_blocks (S.words seg.old) sma.old.from) places.old.items }
+    requires live { AreLive (live_blocks (S.words seg.old) sma.old.bounds.from) places.old.items }
 {
     if !fill::lay_out(sma, seg, places, units, every)? {
         return Ok(u64::MAX);

@@ -89,10 +89,10 @@ pub record AreFew (n : ℕ) (rows removed : List Row) : Type 0 where
 pub are_few : (e : EntrySlots) (words : List ℕ) (aside : Aside) (s : Entries)
     → Stands e words aside s → AreFew s.conf.words s.rows s.removed
 are_few e words aside s stand =
-    let live = live_blocks words e.sma.from in
+    let live = live_blocks words e.sma.bounds.from in
     let more = map extent_of s.unlinked ++ s.taken in
     let some = map extent_of s.removed ++ more in
-    let fit = blocks_fit words e.sma.from e.sma.to live (ready_blocks stand.ready) in
+    let fit = blocks_fit words e.sma.bounds.from e.sma.bounds.to live (ready_blocks stand.ready) in
     let alike : (test : Extent → Bool) → count_by test (blocks_of s) ≤ count_by test live =
     λ test. omega (arith, stand.blocks.count test) in
     record {

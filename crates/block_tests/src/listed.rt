@@ -34,9 +34,10 @@ pub(crate) fn take_listed<S: Segment>(
 ) -> Result<Option<u32>, AllocError>
     requires size { (n % 2 ≡ 0) × (2 ≤ n) }
     requires ready { IsReady sma.old (S.words seg.old) (S.aside seg.old) }
-    requires listed { blocks.old.items ≡ live_blocks (S.words seg.old) sma.old.from }
+    requires listed { blocks.old.items ≡ live_blocks (S.words seg.old) sma.old.bounds.from }
     ensures ready { IsReady sma.new (S.words seg.new) (S.aside seg.new) }
-    ensures listed { OnOk result (blocks.new.items ≡ live_blocks (S.words seg.new) sma.new.from) }
+    ensures listed { OnOk result (blocks.new.items
+        ≡ live_blocks (S.words seg.new) sma.new.bounds.from) }
     ensures aside { S.aside seg.new ≡ S.aside seg.old }
 {
     let taken = sma.take(seg, n);
@@ -69,9 +70,10 @@ pub(crate) fn give_listed<S: Segment>(
     requires index { index < length blocks.now }
     requires ready { IsReady sma.old (S.words seg.old) (S.aside seg.old) }
     requires closed { (at : ℕ) → is_named (S.aside seg.old).windows at ≡ false }
-    requires listed { blocks.now ≡ live_blocks (S.words seg.old) sma.old.from }
+    requires listed { blocks.now ≡ live_blocks (S.words seg.old) sma.old.bounds.from }
     ensures ready { IsReady sma.new (S.words seg.new) (S.aside seg.new) }
-    ensures listed { IfOk result (λ kept. kept.items ≡ live_blocks (S.words seg.new) sma.new.from) }
+    ensures listed { IfOk result (λ kept. kept.items
+        ≡ live_blocks (S.words seg.new) sma.new.bounds.from) }
     ensures aside { S.aside seg.new ≡ S.aside seg.old }
 {
     let at = blocks[index].place;
@@ -149,9 +151,10 @@ pub(crate) fn keep_listed<S: Segment>(
 ) -> Result<Vec<Extent>, AllocError>
     requires ready { IsReady sma.old (S.words seg.old) (S.aside seg.old) }
     requires closed { (at : ℕ) → is_named (S.aside seg.old).windows at ≡ false }
-    requires listed { blocks.now ≡ live_blocks (S.words seg.old) sma.old.from }
+    requires listed { blocks.now ≡ live_blocks (S.words seg.old) sma.old.bounds.from }
     ensures ready { IsReady sma.new (S.words seg.new) (S.aside seg.new) }
-    ensures listed { IfOk result (λ kept. kept.items ≡ live_blocks (S.words seg.new) sma.new.from) }
+    ensures listed { IfOk result (λ kept. kept.items
+        ≡ live_blocks (S.words seg.new) sma.new.bounds.from) }
     ensures aside { S.aside seg.new ≡ S.aside seg.old }
 {
     let places = rising_places_of(alloc, blocks, which)?;

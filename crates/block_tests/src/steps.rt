@@ -39,9 +39,10 @@ fn play_one<S: Segment>(
 ) -> Result<bool, AllocError>
     requires ready { IsReady sma.old (S.words seg.old) (S.aside seg.old) }
     requires closed { (at : ℕ) → is_named (S.aside seg.old).windows at ≡ false }
-    requires listed { blocks.old.items ≡ live_blocks (S.words seg.old) sma.old.from }
+    requires listed { blocks.old.items ≡ live_blocks (S.words seg.old) sma.old.bounds.from }
     ensures ready { IsReady sma.new (S.words seg.new) (S.aside seg.new) }
-    ensures listed { OnOk result (blocks.new.items ≡ live_blocks (S.words seg.new) sma.new.from) }
+    ensures listed { OnOk result (blocks.new.items
+        ≡ live_blocks (S.words seg.new) sma.new.bounds.from) }
     ensures aside { S.aside seg.new ≡ S.aside seg.old }
 {
     match step {
@@ -53,7 +54,7 @@ fn play_one<S: Segment>(
         },
         Step::TakeLeast(n) => {
             if n % 2 == 0 && n > 1 {
-                let least = first_fit(sma.from, sma.to, sma.piece, n, blocks);
+                let least = first_fit(sma.bounds.from, sma.bounds.to, sma.bounds.piece, n, blocks);
                 return Ok(take_listed(sma, seg, blocks, n)? == least);
             }
             Ok(false)
@@ -87,7 +88,7 @@ fn play<S: Segment>(
 ) -> Result<usize, AllocError>
     requires ready { IsReady sma.old (S.words seg.old) (S.aside seg.old) }
     requires closed { (at : ℕ) → is_named (S.aside seg.old).windows at ≡ false }
-    requires empty { live_blocks (S.words seg.old) sma.old.from ≡ [] }
+    requires empty { live_blocks (S.words seg.old) sma.old.bounds.from ≡ [] }
 {
     let mut blocks = Vec::new(alloc);
     for (i, step) in steps.iter().enumerate() {

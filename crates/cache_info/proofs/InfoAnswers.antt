@@ -9,7 +9,7 @@ use Rattle.seg_words.specs.declared.gaps.Extent.{Extent}
 use Rattle.seg_words.specs.Gaps.{free_runs}
 use Rattle.seg_words.specs.Members.{Contains-first, Contains-later, any_from}
 use Rattle.seg_words.specs.Windows.{Aside}
-use Rattle.sma_blocks.specs.Live.{live_blocks}
+use Rattle.sma_blocks.specs.Live.{free_runs_in, live_blocks}
 use Rattle.apcu_model.specs.Conf.{piece_of}
 use Rattle.apcu_model.specs.declared.conf.Conf.{Conf}
 use Rattle.apcu_model.specs.declared.row_info.Counts.{Counts}
@@ -57,9 +57,9 @@ whole_told c conf counts w rows removed shape many words are gone =
 
 pub gaps_are : (e : EntrySlots) (words : List ℕ) (aside : Aside) (c : Cache) (s : Entries)
     → Stands e words aside s → s ≡ entries_of c
-    → free_runs e.sma.from e.sma.to e.sma.piece (live_blocks words e.sma.from) ≡ gaps_of c
+    → free_runs_in e.sma.bounds words ≡ gaps_of c
 gaps_are e words aside c s stand whole =
-    let live = live_blocks words e.sma.from in
+    let live = live_blocks words e.sma.bounds.from in
     let slots : s.conf.slots ≡ c.conf.slots = ap (λ (x : Entries). x.conf.slots) whole in
     let all : s.conf.words ≡ c.conf.words = ap (λ (x : Entries). x.conf.words) whole in
     let blocks : blocks_of s ≡ map extent_of (c.rows ++ c.removed) =
@@ -67,8 +67,8 @@ gaps_are e words aside c s stand whole =
     ∙ ap (λ l. map extent_of c.rows ++ l) (append-nil (map extent_of c.removed))
     ∙ sym (map-append extent_of c.rows c.removed) in
     let piece : piece_of s.conf ≡ piece_of c.conf = ap (λ (x : Entries). piece_of x.conf) whole in
-    ap (λ n. free_runs n e.sma.to e.sma.piece live) (stand.from ∙ slots)
-    ∙ ap (λ n. free_runs c.conf.slots n e.sma.piece live) (stand.to ∙ all)
+    ap (λ n. free_runs n e.sma.bounds.to e.sma.bounds.piece live) (stand.from ∙ slots)
+    ∙ ap (λ n. free_runs c.conf.slots n e.sma.bounds.piece live) (stand.to ∙ all)
     ∙ ap (λ n. free_runs c.conf.slots c.conf.words n live) (stand.piece ∙ piece)
     ∙ runs_alike c.conf.slots c.conf.words (piece_of c.conf) live (blocks_of s) stand.blocks
     ∙ ap (free_runs c.conf.slots c.conf.words (piece_of c.conf)) blocks

@@ -2,10 +2,9 @@
 
 ghost use Rattle.std.specs.Prelude.{◌≡◌, ℕ, sum_by, IfOk};
 ghost use Rattle.seg_words.specs.declared.gaps.Extent.{Extent};
-ghost use Rattle.seg_words.specs.Gaps.{free_runs};
 ghost use Rattle.seg_words.specs.Kept.{Kept};
 ghost use Rattle.apcu_model.specs.Infos.{sma_info_of};
-ghost use Rattle.sma_blocks.specs.Live.{live_blocks};
+ghost use Rattle.sma_blocks.specs.Live.{free_runs_in};
 ghost use Rattle.sma_blocks.specs.Ready.{IsReady};
 ghost use Rattle.cache_core.specs.CoreCache.{cache_of, CacheStands};
 ghost use Rattle.cache_core.specs.Events.{IsUnchanged};
@@ -20,12 +19,12 @@ use std::alloc::{AllocError, Global};
 // The gaps, by rising place.
 fn list_gaps<S: Segment>(alloc: Global, sma: &Sma, seg: &mut S) -> Result<Vec<Extent>, AllocError>
     requires ready { IsReady sma.now (S.words seg.old) (S.aside seg.old) }
-    ensures gaps { IfOk result (λ list. list.items ≡ free_runs sma.now.from sma.now.to
-        sma.now.piece (live_blocks (S.words seg.old) sma.now.from)) }
+    ensures gaps { IfOk result (λ list. list.items
+        ≡ free_runs_in sma.now.bounds (S.words seg.old)) }
     ensures kept { Kept S.WordsIn seg.old seg.new }
 {
-    let (_from, _to) = (sma.from, sma.to);
-    let _piece = sma.piece;
+    let (_from, _to) = (sma.bounds.from, sma.bounds.to);
+    let _piece = sma.bounds.piece;
     let mut list = Vec::new(alloc);
     let mut from = 0;
     while let Some((place, size)) = sma.gap_from(seg, from) {

@@ -52,18 +52,18 @@ blocks_apart ws low (b ∷ es) high e f h x y = elim (Contains-cases b es e x) [
   ]
 ]
 
-pub live_apart : (sma : Sma) (ws : List ℕ) (aside : Aside) (e f : Extent) → IsReady sma ws aside → Contains (live_blocks ws sma.from) e → Contains (live_blocks ws sma.from) f → Apart e f
-live_apart sma ws aside e f ready x y = blocks_apart ws sma.from (live_blocks ws sma.from) sma.to e f (ready_blocks ready) x y
+pub live_apart : (sma : Sma) (ws : List ℕ) (aside : Aside) (e f : Extent) → IsReady sma ws aside → Contains (live_blocks ws sma.bounds.from) e → Contains (live_blocks ws sma.bounds.from) f → Apart e f
+live_apart sma ws aside e f ready x y = blocks_apart ws sma.bounds.from (live_blocks ws sma.bounds.from) sma.bounds.to e f (ready_blocks ready) x y
 
 -- a live block lies past the slots and before the end
-pub live_bounds : (sma : Sma) (ws : List ℕ) (aside : Aside) (e : Extent) → IsReady sma ws aside → Contains (live_blocks ws sma.from) e → (sma.from ≤ e.place) × (e.place + e.size ≤ length ws) × (2 ≤ e.size)
+pub live_bounds : (sma : Sma) (ws : List ℕ) (aside : Aside) (e : Extent) → IsReady sma ws aside → Contains (live_blocks ws sma.bounds.from) e → (sma.bounds.from ≤ e.place) × (e.place + e.size ≤ length ws) × (2 ≤ e.size)
 live_bounds sma ws aside e ready x =
-    let r = blocks_between ws sma.from (live_blocks ws sma.from) sma.to e (ready_blocks ready) x in
+    let r = blocks_between ws sma.bounds.from (live_blocks ws sma.bounds.from) sma.bounds.to e (ready_blocks ready) x in
     (r.0, omega (arith, r.1, ready.end), r.2)
 
 -- and its first word is its size
-pub live_word : (sma : Sma) (ws : List ℕ) (aside : Aside) (e : Extent) → IsReady sma ws aside → Contains (live_blocks ws sma.from) e → slice_index ws e.place ≡ e.size
-live_word sma ws aside e ready x = (blocks_between ws sma.from (live_blocks ws sma.from) sma.to e (ready_blocks ready) x).3
+pub live_word : (sma : Sma) (ws : List ℕ) (aside : Aside) (e : Extent) → IsReady sma ws aside → Contains (live_blocks ws sma.bounds.from) e → slice_index ws e.place ≡ e.size
+live_word sma ws aside e ready x = (blocks_between ws sma.bounds.from (live_blocks ws sma.bounds.from) sma.bounds.to e (ready_blocks ready) x).3
 
 has_there : (x : ℕ) (ws : List ℕ) → Contains ws x → has x ws ≡ true
 has_there x [] c = absurd (none_in_nil x c)
@@ -82,7 +82,7 @@ told_from windows i other =
     other r.0 (and_from (ltb 0 r.0) (has r.0 windows) parts.0 (has_there r.0 windows r.1)) (eqb-true i (r.0 + PIN_COUNT) parts.1))
 
 -- each word of a live block is told, but for its pin count
-pub told_in : (sma : Sma) (ws : List ℕ) (aside : Aside) (e : Extent) (i : ℕ) → IsReady sma ws aside → Contains (live_blocks ws sma.from) e → e.place ≤ i → i < e.place + e.size → i ≢ e.place + PIN_COUNT → IsTold aside.windows i
+pub told_in : (sma : Sma) (ws : List ℕ) (aside : Aside) (e : Extent) (i : ℕ) → IsReady sma ws aside → Contains (live_blocks ws sma.bounds.from) e → e.place ≤ i → i < e.place + e.size → i ≢ e.place + PIN_COUNT → IsTold aside.windows i
 unfolding Apart
 told_in sma ws aside e i ready live low high other =
     told_from aside.windows i (λ x named.
@@ -97,7 +97,7 @@ told_in sma ws aside e i ready live low high other =
     ])
 
 -- and so is each slot word
-pub told_slot : (sma : Sma) (ws : List ℕ) (aside : Aside) (i : ℕ) → IsReady sma ws aside → i < sma.from → IsTold aside.windows i
+pub told_slot : (sma : Sma) (ws : List ℕ) (aside : Aside) (i : ℕ) → IsReady sma ws aside → i < sma.bounds.from → IsTold aside.windows i
 told_slot sma ws aside i ready low =
     told_from aside.windows i (λ x named.
     let block = ready.windows x named in

@@ -70,7 +70,7 @@ distinct_both (x ∷ xs) ys p q h cp cq = elim (Contains-cases x xs p cp) [
 
 -- a slot word, or word 1 of a row's block
 abbrev pub Spot : EntrySlots → List ℕ → Aside → ℕ → Type 0
-Spot e ws aside m = (m < e.sma.from) ⊎ ((q : Row) × IsHome e ws aside q × (m ≡ q.place + NEXT))
+Spot e ws aside m = (m < e.sma.bounds.from) ⊎ ((q : Row) × IsHome e ws aside q × (m ≡ q.place + NEXT))
 
 pub spot_after : {e : EntrySlots} {ws : List ℕ} {aside : Aside} (first : ℕ) (front : List Row) → Spot e ws aside first → AreHome e ws aside front → Spot e ws aside (link_after first front)
 spot_after first [] spot homes = spot

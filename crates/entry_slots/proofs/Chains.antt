@@ -55,7 +55,7 @@ pub slot_small : (n slots : ℕ) → 2 ≤ slots → n % slots < slots
 slot_small n slots h = omega arith
 
 -- what follows in a chain, or among the removed rows
-pub next_row : {e : EntrySlots} {ws : List ℕ} {aside : Aside} (s : Entries) (at slot : ℕ) → Stands e ws aside s → slot < e.sma.from → has_place at (chain_of s slot) ≡ true → slice_index ws (at + NEXT) ≡ place_after at (chain_of s slot)
+pub next_row : {e : EntrySlots} {ws : List ℕ} {aside : Aside} (s : Entries) (at slot : ℕ) → Stands e ws aside s → slot < e.sma.bounds.from → has_place at (chain_of s slot) ≡ true → slice_index ws (at + NEXT) ≡ place_after at (chain_of s slot)
 next_row {ws = ws} s at slot h lt there = chain_next ws at (slice_index ws slot) (chain_of s slot) (h.chains slot (omega (arith, h.from))) there
 
 pub next_removed : {e : EntrySlots} {ws : List ℕ} {aside : Aside} (s : Entries) (at : ℕ) → Stands e ws aside s → has_place at s.removed ≡ true → slice_index ws (at + NEXT) ≡ place_after at s.removed
@@ -74,7 +74,7 @@ small_after {e = e} {ws = ws} {aside = aside} {at = at} h =
       | inl l ↦
           let own = in_own_slot s at l in
           let slot = slot_of s.conf own.0.key in
-          let lt : slot < e.sma.from = omega (arith, slot_small (hash_of own.0.key) s.conf.slots h.stand.usable.slots_least, h.stand.from) in
+          let lt : slot < e.sma.bounds.from = omega (arith, slot_small (hash_of own.0.key) s.conf.slots h.stand.usable.slots_least, h.stand.from) in
           let small = small_next e ws aside at (chain_of s slot) (home_chain slot h.stand) in
           omega (arith, next_row s at slot h.stand lt own.1, small)
       | inr r ↦
@@ -86,7 +86,7 @@ small_after {e = e} {ws = ws} {aside = aside} {at = at} h =
     any-append at xs ys = list_any-append (is_at at) xs ys
 
 -- the first of a chain
-pub small_slot : {e : EntrySlots} {ws : List ℕ} {aside : Aside} (slot : ℕ) → (s : Entries) × Stands e ws aside s → slot < e.sma.from → slice_index ws slot < 2 ^ 32
+pub small_slot : {e : EntrySlots} {ws : List ℕ} {aside : Aside} (slot : ℕ) → (s : Entries) × Stands e ws aside s → slot < e.sma.bounds.from → slice_index ws slot < 2 ^ 32
 small_slot {e = e} {ws = ws} {aside = aside} slot h lt =
     let small = small_first e ws aside (chain_of h.0 slot) (home_chain slot h.1) in
     omega (arith, chain_first ws (slice_index ws slot) (chain_of h.0 slot) (h.1.chains slot (omega (arith, h.1.from))), small)

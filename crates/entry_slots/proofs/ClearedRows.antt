@@ -56,7 +56,7 @@ module _ {e : EntrySlots} {ws : List ℕ} {aside : Aside} (s : Entries) (h : Sta
       rows_removed h row r.0 c r.1 (eqb-true r.0.place row.place r.2))
 
   -- of the blocks, those of the removed rows are kept
-  kept_count : (test : Extent → Bool) → count_by test (kept_blocks places (live_blocks ws e.sma.from)) ≡ count_by test (blocks_of (without_rows s))
+  kept_count : (test : Extent → Bool) → count_by test (kept_blocks places (live_blocks ws e.sma.bounds.from)) ≡ count_by test (blocks_of (without_rows s))
   kept_count test =
       let both : Extent → Bool = λ b. has b.place places && test b in
       let p : Row → Bool = λ row. has row.place places && test (extent_of row) in
@@ -68,13 +68,13 @@ module _ {e : EntrySlots} {ws : List ℕ} {aside : Aside} (s : Entries) (h : Sta
       let ta : count_by both s.taken ≡ 0 = ap (count_by both) whole.1 in
       let ta' : count_by test s.taken ≡ 0 = ap (count_by test) whole.1 in
       let left : count_by q (without_rows s).rows ≡ 0 = refl in
-      omega (arith, count_both (λ (b : Extent). has b.place places) test (live_blocks ws e.sma.from), h.blocks.count both, count_blocks both s, count_blocks test (without_rows s), none, all, un, un', ta, ta', left)
+      omega (arith, count_both (λ (b : Extent). has b.place places) test (live_blocks ws e.sma.bounds.from), h.blocks.count both, count_blocks both s, count_blocks test (without_rows s), none, all, un, un', ta, ta', left)
 
-  pub place_live : (at : ℕ) → has at places ≡ true → IsLive (live_blocks ws e.sma.from) at
+  pub place_live : (at : ℕ) → has at places ≡ true → IsLive (live_blocks ws e.sma.bounds.from) at
   place_live at there =
       let r = any_there (is_at at) s.removed (sym (same at) ∙ there) in
       let e' : r.0.place ≡ at = eqb-true r.0.place at r.2 in
-      (r.0.size, subst (λ n. Contains (live_blocks ws e.sma.from) (record { place = n; size = r.0.size })) e' (home_removed r.0 h r.1).live)
+      (r.0.size, subst (λ n. Contains (live_blocks ws e.sma.bounds.from) (record { place = n; size = r.0.size })) e' (home_removed r.0 h r.1).live)
 
   -- only removed rows are named
   pub named_kept : ((at : ℕ) → has_place at s.rows ≡ true → is_named aside.windows at ≡ false) → (at : ℕ) → is_named aside.windows at ≡ true → has at places ≡ true
@@ -82,7 +82,7 @@ module _ {e : EntrySlots} {ws : List ℕ} {aside : Aside} (s : Entries) (h : Sta
       let held = h.ready.windows at named in
       let begins : Extent → Bool = λ b. b.place == at in
       let p : Row → Bool = λ row. row.place == at in
-      let some : 1 ≤ count_by begins (live_blocks ws e.sma.from) = counted_some begins (live_blocks ws e.sma.from) (record { place = at; size = held.size }) held.live (eq-eqb at at refl) in
+      let some : 1 ≤ count_by begins (live_blocks ws e.sma.bounds.from) = counted_some begins (live_blocks ws e.sma.bounds.from) (record { place = at; size = held.size }) held.live (eq-eqb at at refl) in
       elim (cases_Bool (has_place at s.removed)) [
         | inl there ↦ same at ∙ there
         | inr none ↦ elim (cases_Bool (has_place at s.rows)) [
@@ -96,11 +96,11 @@ module _ {e : EntrySlots} {ws : List ℕ} {aside : Aside} (s : Entries) (h : Sta
         ]
       ]
 
-  pub cleared_stands : Laws → (ws1 ws' : List ℕ) (sma' : Sma) → ChangesBefore ws ws1 e.sma.from → ((slot : ℕ) → slot < e.sma.from → slice_index ws1 slot ≡ 0)
-      → live_blocks ws1 e.sma.from ≡ live_blocks ws e.sma.from → live_blocks ws' e.sma.from ≡ kept_blocks places (live_blocks ws1 e.sma.from)
-      → SameBlocks ws1 ws' e.sma.from (kept_blocks places (live_blocks ws1 e.sma.from)) → sma'.from ≡ e.sma.from → sma'.to ≡ e.sma.to → sma'.piece ≡ e.sma.piece → IsReady sma' ws' aside
+  pub cleared_stands : Laws → (ws1 ws' : List ℕ) (sma' : Sma) → ChangesBefore ws ws1 e.sma.bounds.from → ((slot : ℕ) → slot < e.sma.bounds.from → slice_index ws1 slot ≡ 0)
+      → live_blocks ws1 e.sma.bounds.from ≡ live_blocks ws e.sma.bounds.from → live_blocks ws' e.sma.bounds.from ≡ kept_blocks places (live_blocks ws1 e.sma.bounds.from)
+      → SameBlocks ws1 ws' e.sma.bounds.from (kept_blocks places (live_blocks ws1 e.sma.bounds.from)) → sma'.bounds ≡ e.sma.bounds → IsReady sma' ws' aside
       → Stands (record e { sma = sma'; count = 0 }) ws' aside (without_rows s)
-  cleared_stands law ws1 ws' sma' before ended blocks live kept ef et es ready = record {
+  cleared_stands law ws1 ws' sma' before ended blocks live kept eb ready = record {
     chains = λ slot lt. kept.before slot (omega (arith, lt, h.from)) ∙ ended slot (omega (arith, lt, h.from));
     removed_chain = chain_kept ws ws' e.removed s.removed (λ row c. link row c) h.removed_chain;
     rows = λ row c. absurd (none_in_nil row c);
@@ -110,24 +110,24 @@ module _ {e : EntrySlots} {ws : List ℕ} {aside : Aside} (s : Entries) (h : Sta
     ready = ready;
     blocks = record {
       count = λ test.
-          ap (λ from. count_by test (live_blocks ws' from)) ef ∙ (ap (count_by test) (live ∙ ap (kept_blocks places) blocks) ∙ kept_count test);
+          ap (λ b. count_by test (live_blocks ws' b.from)) eb ∙ (ap (count_by test) (live ∙ ap (kept_blocks places) blocks) ∙ kept_count test);
     };
     apart = refl;
     number = h.number;
     count = refl;
     usable = h.usable;
-    from = ef ∙ h.from;
-    to = et ∙ h.to;
-    piece = es ∙ h.piece;
+    from = ap (λ b. b.from) eb ∙ h.from;
+    to = ap (λ b. b.to) eb ∙ h.to;
+    piece = ap (λ b. b.piece) eb ∙ h.piece;
   } where
-    in_kept : (row : Row) → Contains s.removed row → Contains (kept_blocks places (live_blocks ws1 e.sma.from)) (extent_of row)
+    in_kept : (row : Row) → Contains s.removed row → Contains (kept_blocks places (live_blocks ws1 e.sma.bounds.from)) (extent_of row)
     in_kept row c =
-        Contains-kept (λ (b : Extent). has b.place places) (live_blocks ws1 e.sma.from) (extent_of row) (subst (λ (l : List Extent). Contains l (extent_of row)) (sym blocks) (home_removed row h c).live) (removed_has row c)
+        Contains-kept (λ (b : Extent). has b.place places) (live_blocks ws1 e.sma.bounds.from) (extent_of row) (subst (λ (l : List Extent). Contains l (extent_of row)) (sym blocks) (home_removed row h c).live) (removed_has row c)
 
     entry : (row : Row) → Contains s.removed row → IsEntry ws' row
     entry row c =
         let w = room (home_removed row h c) in
-        let last : SameRow ws1 ws' row = row_same e ws1 ws' (kept_blocks places (live_blocks ws1 e.sma.from)) row kept (in_kept row c) in
+        let last : SameRow ws1 ws' row = row_same e ws1 ws' (kept_blocks places (live_blocks ws1 e.sma.bounds.from)) row kept (in_kept row c) in
         entry_kept law ws ws' row (home_removed row h c).entry (record {
           count = last.count ∙ before.count;
           same = λ i low high one. last.same i low high one ∙ before.after i (omega (arith, w.low));
@@ -136,7 +136,7 @@ module _ {e : EntrySlots} {ws : List ℕ} {aside : Aside} (s : Entries) (h : Sta
     link : (row : Row) → Contains s.removed row → slice_index ws' (row.place + NEXT) ≡ slice_index ws (row.place + NEXT)
     link row c =
         let w = room (home_removed row h c) in
-        kept.inside (row.place + NEXT) (not_free (row.place + NEXT) 1 (kept_blocks places (live_blocks ws1 e.sma.from)) (extent_of row) (in_kept row c) (omega arith) (omega arith) (omega (arith, w.enough)))
+        kept.inside (row.place + NEXT) (not_free (row.place + NEXT) 1 (kept_blocks places (live_blocks ws1 e.sma.bounds.from)) (extent_of row) (in_kept row c) (omega arith) (omega arith) (omega (arith, w.enough)))
         ∙ before.after (row.place + NEXT) (omega (arith, w.low))
 
 -- what is in a list by its number is in it

@@ -61,7 +61,7 @@ count_blocks test s =
 pub once : {e : EntrySlots} {ws : List ℕ} {aside : Aside} {s : Entries} → Stands e ws aside s → (x : ℕ)
     → count_by (is_at x) s.rows + (count_by (is_at x) s.removed + (count_by (is_at x) s.unlinked + count_by (begins_at x) s.taken)) ≤ 1
 once {e} {ws} {aside} {s} h x =
-    omega (arith, count_blocks (begins_at x) s, h.blocks.count (begins_at x), blocks_once ws e.sma.from (live_blocks ws e.sma.from) e.sma.to x (ready_blocks h.ready))
+    omega (arith, count_blocks (begins_at x) s, h.blocks.count (begins_at x), blocks_once ws e.sma.bounds.from (live_blocks ws e.sma.bounds.from) e.sma.bounds.to x (ready_blocks h.ready))
 
 pub at_itself : (row : Row) (x : ℕ) → row.place ≡ x → is_at x row ≡ true
 at_itself row x e = eq-eqb row.place x e
@@ -89,11 +89,11 @@ count_all (x ∷ xs) = omega (arith, count-cons (λ y. true) x xs, count_all xs)
 
 pub rows_few : {e : EntrySlots} {ws : List ℕ} {aside : Aside} {s : Entries} → Stands e ws aside s → e.count ≤ length ws
 rows_few {e} {ws} {aside} {s} h =
-    omega (arith, h.count, count_all s.rows, count_blocks (λ (x : Extent). true) s, h.blocks.count (λ (x : Extent). true), h.ready.end, blocks_few ws e.sma.from (live_blocks ws e.sma.from) e.sma.to (ready_blocks h.ready))
+    omega (arith, h.count, count_all s.rows, count_blocks (λ (x : Extent). true) s, h.blocks.count (λ (x : Extent). true), h.ready.end, blocks_few ws e.sma.bounds.from (live_blocks ws e.sma.bounds.from) e.sma.bounds.to (ready_blocks h.ready))
 
-pub removed_few : {e : EntrySlots} {ws : List ℕ} {aside : Aside} {s : Entries} → Stands e ws aside s → e.sma.from + length s.removed ≤ length ws
+pub removed_few : {e : EntrySlots} {ws : List ℕ} {aside : Aside} {s : Entries} → Stands e ws aside s → e.sma.bounds.from + length s.removed ≤ length ws
 removed_few {e} {ws} {aside} {s} h =
-    omega (arith, count_all s.removed, count_blocks (λ (x : Extent). true) s, h.blocks.count (λ (x : Extent). true), h.ready.end, blocks_few ws e.sma.from (live_blocks ws e.sma.from) e.sma.to (ready_blocks h.ready))
+    omega (arith, count_all s.removed, count_blocks (λ (x : Extent). true) s, h.blocks.count (λ (x : Extent). true), h.ready.end, blocks_few ws e.sma.bounds.from (live_blocks ws e.sma.bounds.from) e.sma.bounds.to (ready_blocks h.ready))
 
 one_of : (x : ℕ) (rows : List Row) (p q : Row) → count_by (is_at x) rows ≤ 1 → Contains rows p → Contains rows q → p.place ≡ x → q.place ≡ x → p ≡ q
 one_of x [] p q few cp cq ep eq' = absurd (none_in_nil p cp)

@@ -16,7 +16,7 @@ abbrev pub bare : Conf → ℕ → Entries
 bare conf number = record { conf = conf; rows = []; removed = []; next_number = number; unlinked = []; taken = [] }
 
 pub bare_stands : (e : EntrySlots) (ws : List ℕ) (aside : Aside) (conf : Conf) → IsUsable conf → ((slot : ℕ) → slot < conf.slots → slice_index ws slot ≡ 0) → e.removed ≡ 0 → e.count ≡ 0
-    → IsReady e.sma ws aside → live_blocks ws e.sma.from ≡ [] → e.sma.from ≡ conf.slots → e.sma.to ≡ conf.words → e.sma.piece ≡ piece_of conf → Stands e ws aside (bare conf e.next_number)
+    → IsReady e.sma ws aside → live_blocks ws e.sma.bounds.from ≡ [] → e.sma.bounds.from ≡ conf.slots → e.sma.bounds.to ≡ conf.words → e.sma.bounds.piece ≡ piece_of conf → Stands e ws aside (bare conf e.next_number)
 bare_stands e ws aside conf usable ended removed count ready live from to piece = record {
   chains = ended;
   removed_chain = removed;

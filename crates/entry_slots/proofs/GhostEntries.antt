@@ -19,14 +19,14 @@ restand {e} {e'} {words} {aside} {s} h sma removed number count = record {
   unlinked = h.unlinked;
   taken = h.taken;
   ready = subst (λ a. IsReady a words aside) (sym sma) h.ready;
-  blocks = subst (λ a. HaveSame (live_blocks words a.from) (blocks_of s)) (sym sma) h.blocks;
+  blocks = subst (λ a. HaveSame (live_blocks words a.bounds.from) (blocks_of s)) (sym sma) h.blocks;
   apart = h.apart;
   number = number ∙ h.number;
   count = count ∙ h.count;
   usable = h.usable;
-  from = ap (λ a. a.from) sma ∙ h.from;
-  to = ap (λ a. a.to) sma ∙ h.to;
-  piece = ap (λ a. a.piece) sma ∙ h.piece;
+  from = ap (λ a. a.bounds.from) sma ∙ h.from;
+  to = ap (λ a. a.bounds.to) sma ∙ h.to;
+  piece = ap (λ a. a.bounds.piece) sma ∙ h.piece;
 }
 
 -- what is at a place, of the entries that the words stand for

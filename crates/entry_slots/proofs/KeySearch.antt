@@ -29,7 +29,7 @@ pub record Walk (ws key : List ℕ) (chain : List Row) (at passed : ℕ) : Type 
   pub none : list_any (has_key key) front ≡ false
   pub rest : IsRowChain ws at back
 
-pub walk_start : {e : EntrySlots} {ws : List ℕ} {aside : Aside} (key : List ℕ) (s : Entries) (slot at : ℕ) → Stands e ws aside s → slot < e.sma.from → at ≡ first_place (chain_of s slot) → Walk ws key (chain_of s slot) at 0
+pub walk_start : {e : EntrySlots} {ws : List ℕ} {aside : Aside} (key : List ℕ) (s : Entries) (slot at : ℕ) → Stands e ws aside s → slot < e.sma.bounds.from → at ≡ first_place (chain_of s slot) → Walk ws key (chain_of s slot) at 0
 walk_start {ws = ws} key s slot at h lt first =
     let chain = h.chains slot (omega (arith, h.from)) in
     record {

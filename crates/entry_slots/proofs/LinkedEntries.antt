@@ -26,7 +26,7 @@ use Rattle.entry_slots.proofs.NewRows.{count_split, only_passes, count_with_row,
 
 module _ {e : EntrySlots} {ws : List ℕ} {aside : Aside} (s : Entries) (h : Stands e ws aside s) (at : ℕ) (key : List ℕ) (g : List Kind) (ttl t : ℕ)
     (taken : Contains s.taken (extent_of (stored_row key g ttl t at s.next_number))) (entry : IsEntry ws (stored_row key g ttl t at s.next_number))
-    (slot : ℕ) (lt : slot < e.sma.from) (is : slot_of s.conf key ≡ slot) (m : ℕ) (front back more : List Row) (split : chain_of s slot ≡ front ++ back) (follows : m ≡ link_after slot front)
+    (slot : ℕ) (lt : slot < e.sma.bounds.from) (is : slot_of s.conf key ≡ slot) (m : ℕ) (front back more : List Row) (split : chain_of s slot ≡ front ++ back) (follows : m ≡ link_after slot front)
     (sub : (q : Row) → Contains more q → Contains back q) (rest : IsRowChain ws (slice_index ws (at + NEXT)) more)
     (own : filter (is_in_slot s.conf slot) (with_row (stored_row key g ttl t at s.next_number) s.rows) ≡ front ++ stored_row key g ttl t at s.next_number ∷ more) where
   new : Row

@@ -49,7 +49,7 @@ written_only law ws at run = record { count = law.written.long ws at run; same =
         ∙ get_or-set_other ws at i w 0 (elim out [ inl low ↦ (λ q. omega arith) | inr past ↦ (λ q. omega arith) ])
 
 -- a block that was taken is live, and no row's
-pub taken_live : {e : EntrySlots} {ws : List ℕ} {aside : Aside} {s : Entries} (b : Extent) → Stands e ws aside s → Contains s.taken b → Contains (live_blocks ws e.sma.from) b
+pub taken_live : {e : EntrySlots} {ws : List ℕ} {aside : Aside} {s : Entries} (b : Extent) → Stands e ws aside s → Contains s.taken b → Contains (live_blocks ws e.sma.bounds.from) b
 taken_live {s = s} b h c =
     same_there _ (blocks_of s) b h.blocks (Contains-append_right (map extent_of s.rows) _ b (Contains-append_right (map extent_of s.removed) _ b (Contains-append_right (map extent_of s.unlinked) s.taken b c)))
 

@@ -118,7 +118,7 @@ module _ {e : EntrySlots} {ws : List ℕ} {aside : Aside} (s : Entries) (h : Sta
   entry_stands law new_head = taken_stands h (record { place = at; size = block_size (length key) g }) taken (written ws (at + NEXT) (entry_words key g new_head)) (entry_only law new_head) law
 
   -- all of it, and the chain's word
-  pub link_stands : Laws → (new_head : NewHead) → IsGraph g → AreBytes key → new_head.ttl < 2 ^ 32 → new_head.number ≡ e.next_number → (replaced slot m : ℕ) → replaced ≡ found_place (find (has_key key) s.rows) → slot ≡ slot_of s.conf key → slot < e.sma.from
+  pub link_stands : Laws → (new_head : NewHead) → IsGraph g → AreBytes key → new_head.ttl < 2 ^ 32 → new_head.number ≡ e.next_number → (replaced slot m : ℕ) → replaced ≡ found_place (find (has_key key) s.rows) → slot ≡ slot_of s.conf key → slot < e.sma.bounds.from
       → IsLinkTo ws slot (chain_of s slot) replaced m → (replaced ≢ 0 → new_head.next ≡ slice_index ws (replaced + NEXT)) → (replaced ≡ 0 → new_head.next ≡ 0)
       → (number count : ℕ) → number ≡ risen e.next_number → count ≡ cond (eqb replaced 0) (e.count + 1) e.count
       → Stands (record e { next_number = number; count = count }) (slice_set (written ws (at + NEXT) (entry_words key g new_head)) m at) aside (linked at key g new_head.ttl new_head.now s)

@@ -51,7 +51,7 @@ after_cases first m (row ∷ rows) e = elim (after_cases (row.place + NEXT) m ro
   | inr q ↦ inr (q.0, Contains-later row rows q.0 q.1, q.2)
 ]
 
-module _ {e : EntrySlots} {ws : List ℕ} {aside : Aside} {s : Entries} (h : Stands e ws aside s) (slot : ℕ) (lt : slot < e.sma.from) (m v : ℕ) (front back : List Row) (split : chain_of s slot ≡ front ++ back) (follows : m ≡ link_after slot front) where
+module _ {e : EntrySlots} {ws : List ℕ} {aside : Aside} {s : Entries} (h : Stands e ws aside s) (slot : ℕ) (lt : slot < e.sma.bounds.from) (m v : ℕ) (front back : List Row) (split : chain_of s slot ≡ front ++ back) (follows : m ≡ link_after slot front) where
   pub in_front : (q : Row) → Contains front q → Contains (chain_of s slot) q
   in_front q c = subst (λ rs. Contains rs q) (sym split) (Contains-append_left front back q c)
 
@@ -88,7 +88,7 @@ module _ {e : EntrySlots} {ws : List ℕ} {aside : Aside} {s : Entries} (h : Sta
       (distinct_front front back distinct)
 
   -- the other chains
-  pub other_chain : (two : ℕ) → two < e.sma.from → two ≢ slot → IsRowChain (slice_set ws m v) (slice_index (slice_set ws m v) two) (chain_of s two)
+  pub other_chain : (two : ℕ) → two < e.sma.bounds.from → two ≢ slot → IsRowChain (slice_set ws m v) (slice_index (slice_set ws m v) two) (chain_of s two)
   other_chain two low other =
       let word : slice_index (slice_set ws m v) two ≡ slice_index ws two = get_or-set_other ws m two v 0 (elim (after_cases slot m front follows) [
         | inl here ↦ (λ q. other (q ∙ here))

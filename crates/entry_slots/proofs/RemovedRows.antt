@@ -159,7 +159,7 @@ module _ {e : EntrySlots} {ws : List ℕ} {aside : Aside} (s : Entries) (h : Sta
       last first m (row ∷ rows) p e = last (row.place + NEXT) m rows (inl (omega arith)) e
 
   -- the other chains
-  pub chains_kept : link ≢ 0 → (v slot : ℕ) → slot < e.sma.from → IsRowChain (slice_set ws link v) (slice_index (slice_set ws link v) slot) (chain_of s slot)
+  pub chains_kept : link ≢ 0 → (v slot : ℕ) → slot < e.sma.bounds.from → IsRowChain (slice_set ws link v) (slice_index (slice_set ws link v) slot) (chain_of s slot)
   chains_kept some v slot lt =
       let q = link_spot some in
       let place : Contains s.removed q.0 = in_front q.0 q.1 in

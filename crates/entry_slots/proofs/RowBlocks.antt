@@ -24,12 +24,12 @@ use Rattle.entry_slots.proofs.Blocks.{live_bounds, told_in}
 -- the row's block is live, and as the row says
 pub record IsHome (e : EntrySlots) (ws : List ℕ) (aside : Aside) (row : Row) : Type 0 where
   pub ready : IsReady e.sma ws aside
-  pub live : Contains (live_blocks ws e.sma.from) (extent_of row)
+  pub live : Contains (live_blocks ws e.sma.bounds.from) (extent_of row)
   pub entry : IsEntry ws row
-  pub past : 2 ≤ e.sma.from
+  pub past : 2 ≤ e.sma.bounds.from
   pub short : length ws ≤ MOST_USABLE_WORDS
 
-stands_short : {e : EntrySlots} {ws : List ℕ} {aside : Aside} {s : Entries} → Stands e ws aside s → (2 ≤ e.sma.from) × (length ws ≤ MOST_USABLE_WORDS)
+stands_short : {e : EntrySlots} {ws : List ℕ} {aside : Aside} {s : Entries} → Stands e ws aside s → (2 ≤ e.sma.bounds.from) × (length ws ≤ MOST_USABLE_WORDS)
 stands_short h = (omega (arith, h.from, h.usable.slots_least), omega (arith, h.to, h.usable.words_most, h.ready.end))
 
 pub home_row : {e : EntrySlots} {ws : List ℕ} {aside : Aside} {s : Entries} (row : Row) → Stands e ws aside s → Contains s.rows row → IsHome e ws aside row
@@ -74,7 +74,7 @@ pub record IsRoom (from : ℕ) (ws windows : List ℕ) (row : Row) : Type 0 wher
 size_enough : (n size : ℕ) → size ≡ n + n % 2 → n ≤ size
 size_enough n size h = omega arith
 
-pub room : {e : EntrySlots} {ws : List ℕ} {aside : Aside} {row : Row} → IsHome e ws aside row → IsRoom e.sma.from ws aside.windows row
+pub room : {e : EntrySlots} {ws : List ℕ} {aside : Aside} {row : Row} → IsHome e ws aside row → IsRoom e.sma.bounds.from ws aside.windows row
 room {e = e} {ws = ws} {aside = aside} {row = row} h =
     let bounds = live_bounds e.sma ws aside (extent_of row) h.ready h.live in
     record {

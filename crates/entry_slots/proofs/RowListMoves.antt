@@ -190,10 +190,10 @@ module _ {e : EntrySlots} {ws : List ℕ} {aside : Aside} (s : Entries) (h : Sta
 -- ---- a block is given back
 
 pub given_stands : Laws → {e : EntrySlots} {ws : List ℕ} {aside : Aside} (s : Entries) (h : Stands e ws aside s) (at : ℕ) (q : Row) → Contains s.unlinked q → q.place ≡ at → (sma' : Sma) (ws' : List ℕ)
-    → live_blocks ws' e.sma.from ≡ without_block at (live_blocks ws e.sma.from) → SameBlocks ws ws' e.sma.from (without_block at (live_blocks ws e.sma.from)) → sma'.from ≡ e.sma.from → sma'.to ≡ e.sma.to → sma'.piece ≡ e.sma.piece → IsReady sma' ws' aside
+    → live_blocks ws' e.sma.bounds.from ≡ without_block at (live_blocks ws e.sma.bounds.from) → SameBlocks ws ws' e.sma.bounds.from (without_block at (live_blocks ws e.sma.bounds.from)) → sma'.bounds ≡ e.sma.bounds → IsReady sma' ws' aside
     → Stands (record e { sma = sma' }) ws' aside (record s { unlinked = without_place at s.unlinked })
-given_stands law {e} {ws} {aside} s h at q there place sma' ws' live same ef et es ready =
-    let blocks : List Extent = live_blocks ws e.sma.from in
+given_stands law {e} {ws} {aside} s h at q there place sma' ws' live same eb ready =
+    let blocks : List Extent = live_blocks ws e.sma.bounds.from in
     let left : List Extent = without_block at blocks in
     let stays : (row : Row) → IsHome e ws aside row → row.place ≢ at → Contains left (extent_of row) = λ row home other. Contains-kept (λ b. not (eqb b.place at)) blocks (extent_of row) home.live (not_from_false (eqb row.place at) (ne_eqb row.place at other)) in
     let entry : (row : Row) → IsHome e ws aside row → row.place ≢ at → IsEntry ws' row = λ row home other. entry_kept law ws ws' row home.entry (row_same e ws ws' left row same (stays row home other)) in
@@ -214,20 +214,20 @@ given_stands law {e} {ws} {aside} s h at q there place sma' ws' live same ef et 
         count = λ test.
             let p : Row → Bool = λ row. test (extent_of row) in
             let home = home_unlinked q h there in
-            let few : count_by (begins_at at) blocks ≤ 1 = blocks_once ws e.sma.from (live_blocks ws e.sma.from) e.sma.to at (ready_blocks h.ready) in
+            let few : count_by (begins_at at) blocks ≤ 1 = blocks_once ws e.sma.bounds.from (live_blocks ws e.sma.bounds.from) e.sma.bounds.to at (ready_blocks h.ready) in
             let one : count_by test (filter (begins_at at) blocks) ≡ cond (test (extent_of q)) 1 0 = only_passes test (begins_at at) blocks (extent_of q) home.live (eq-eqb q.place at place) few in
             let two : count_by p (only_at at s.unlinked) ≡ cond (p q) 1 0 = only_passes p (is_at at) s.unlinked q there (at_itself q at place) (omega (arith, once h at)) in
             let after : Entries = record s { unlinked = without_place at s.unlinked } in
-            ap (λ from. count_by test (live_blocks ws' from)) ef
+            ap (λ b. count_by test (live_blocks ws' b.from)) eb
             ∙ (ap (count_by test) live ∙ omega (arith, count_split test (begins_at at) blocks, one, two, count_split p (is_at at) s.unlinked, h.blocks.count test, count_blocks test s, count_blocks test after));
       };
       apart = h.apart;
       number = h.number;
       count = h.count;
       usable = h.usable;
-      from = ef ∙ h.from;
-      to = et ∙ h.to;
-      piece = es ∙ h.piece;
+      from = ap (λ b. b.from) eb ∙ h.from;
+      to = ap (λ b. b.to) eb ∙ h.to;
+      piece = ap (λ b. b.piece) eb ∙ h.piece;
     }
 
 -- ---- what the calls need
@@ -294,9 +294,9 @@ given_freed s h at there =
     ap (λ (rows : List Row). let x : Entries = record s { removed = rows; unlinked = without_place at s.unlinked } in x) (sym left)
 
 -- its block is live
-pub live_there : {e : EntrySlots} {ws : List ℕ} {aside : Aside} (s : Entries) (h : Stands e ws aside s) (at : ℕ) (q : Row) → Contains s.unlinked q → q.place ≡ at → IsLive (live_blocks ws e.sma.from) at
+pub live_there : {e : EntrySlots} {ws : List ℕ} {aside : Aside} (s : Entries) (h : Stands e ws aside s) (at : ℕ) (q : Row) → Contains s.unlinked q → q.place ≡ at → IsLive (live_blocks ws e.sma.bounds.from) at
 live_there {e} {ws} {aside} s h at q c place =
-    (q.size, subst (λ (n : ℕ). Contains (live_blocks ws e.sma.from) (record { place = n; size = q.size })) place (home_unlinked q h c).live)
+    (q.size, subst (λ (n : ℕ). Contains (live_blocks ws e.sma.bounds.from) (record { place = n; size = q.size })) place (home_unlinked q h c).live)
 
 pub off_unlinked_there : {e : EntrySlots} {ws : List ℕ} {aside : Aside} (s : Entries) → Stands e ws aside s → (at : ℕ) → has_place at (s.unlinked ++ s.removed) ≡ true → has_place at (only_at at s.removed ++ s.unlinked) ≡ true
 off_unlinked_there s h at there =

@@ -78,7 +78,7 @@ opened_stands e ws old new s at there more h =
         | inr before ↦ false≢true (sym (h.taken block t) ∙ before)
       ]);
       ready = ready_renamed h.ready (λ x named. elim (more x named) [
-        | inl same ↦ subst (Holds ws (live_blocks ws e.sma.from)) (own.2 ∙ sym same) (record { size = own.0.size; live = own.3.live; inside = image_inside own.0 own.3 })
+        | inl same ↦ subst (Holds ws (live_blocks ws e.sma.bounds.from)) (own.2 ∙ sym same) (record { size = own.0.size; live = own.3.live; inside = image_inside own.0 own.3 })
         | inr before ↦ h.ready.windows x before
       ]);
       blocks = h.blocks;
@@ -129,13 +129,13 @@ listed_copied e ws aside s at h there =
 
 pub block_inside : (e : EntrySlots) (ws : List ℕ) (aside : Aside) (s : Entries) (block : Extent) → Stands e ws aside s → Contains (blocks_of s) block → (0 < block.place) × (block.place + block.size ≤ length ws)
 block_inside e ws aside s block h c =
-    let b = live_bounds e.sma ws aside block h.ready (same_there (live_blocks ws e.sma.from) (blocks_of s) block h.blocks c) in
+    let b = live_bounds e.sma ws aside block h.ready (same_there (live_blocks ws e.sma.bounds.from) (blocks_of s) block h.blocks c) in
     (omega (arith, b.0, h.from, h.usable.slots_least), b.1)
 
 pub blocks_lie_apart : (e : EntrySlots) (ws : List ℕ) (aside : Aside) (s : Entries) (one other : Extent) → Stands e ws aside s → Contains (blocks_of s) one → Contains (blocks_of s) other → LieApart one other
 unfolding Apart
 blocks_lie_apart e ws aside s one other h c d =
-    let live : List Extent = live_blocks ws e.sma.from in
+    let live : List Extent = live_blocks ws e.sma.bounds.from in
     live_apart e.sma ws aside one other h.ready (same_there live (blocks_of s) one h.blocks c) (same_there live (blocks_of s) other h.blocks d)
 
 pub sound : (e : EntrySlots) (ws : List ℕ) (aside : Aside) (s : Entries) → Stands e ws aside s → IsSound s ws aside.windows

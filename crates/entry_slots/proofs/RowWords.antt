@@ -7,15 +7,14 @@ use Rattle.std.specs.List.{count_by}
 use Rattle.std.proofs.lemmas.List.Sums.{sum_by-cons, sum_by-append}
 use Rattle.seg_words.specs.declared.gaps.Extent.{Extent}
 use Rattle.seg_words.specs.Blocks.{IsTold}
-use Rattle.seg_words.specs.Gaps.{free_runs}
 use Rattle.seg_words.specs.Members.{none_in_nil, Contains-cases, Contains-first, count-cons, count-append}
 use Rattle.seg_words.specs.Windows.{Aside}
 use Rattle.sma_blocks.specs.Tiles.{Tile, tiles, Fill}
-use Rattle.sma_blocks.specs.Live.{gap_words, lives, live_blocks}
+use Rattle.sma_blocks.specs.Live.{gap_words, lives, free_runs_in}
 use Rattle.sma_blocks.proofs.GapSizes.{gap_words-sum}
 use Rattle.sma_blocks.proofs.LiveBlocks.{tile_extent}
-use Rattle.sma_blocks.proofs.Spans.{span_of, filled_of}
-use Rattle.sma_blocks.proofs.SpanFreeRuns.{free_runs_of}
+use Rattle.sma_blocks.proofs.FilledWords.{filled_of}
+use Rattle.sma_blocks.proofs.FilledFreeRuns.{free_runs_of}
 use Rattle.apcu_model.specs.Cache.{Row, extent_of}
 use Rattle.entry_slots.specs.declared.slots.EntrySlots.{EntrySlots}
 use Rattle.entry_slots.specs.Lists.{HaveSame, first_place}
@@ -111,16 +110,15 @@ whole_sum s whole =
 module _ (e : EntrySlots) (ws : List ℕ) (aside : Aside) (s : Entries) (stand : Stands e ws aside s) where
   -- with what the allocator answers, the words of the rows and the removed rows are all
   pub all_words : IsWhole s → (free : ℕ)
-      → free ≡ sum_by (λ (run : Extent). run.size) (free_runs e.sma.from e.sma.to e.sma.piece
-      (live_blocks ws e.sma.from))
-      → sum_by size_of s.rows + sum_by size_of s.removed + free + e.sma.from ≡ e.sma.to
+      → free ≡ sum_by (λ (run : Extent). run.size) (free_runs_in e.sma.bounds ws)
+      → sum_by size_of s.rows + sum_by size_of s.removed + free + e.sma.bounds.from ≡ e.sma.bounds.to
   all_words whole free is =
-      let all = tiles ws e.sma.from in
-      let runs = free_runs_of (span_of e.sma) ws aside (filled_of stand.ready) in
+      let all = tiles ws e.sma.bounds.from in
+      let runs = free_runs_of e.sma.bounds ws aside (filled_of stand.ready) in
       omega (
         arith,
         is ∙ ap (sum_by run_size) runs ∙ sym (gap_words-sum all),
-        tile_sum ws e.sma.from all (length ws) stand.ready.formatted.full,
+        tile_sum ws e.sma.bounds.from all (length ws) stand.ready.formatted.full,
         same_sum (lives all) (blocks_of s) stand.blocks,
         whole_sum s whole,
         stand.ready.end,

@@ -14,7 +14,7 @@ use Rattle.entry_slots.proofs.Blocks.{Apart, live_apart, live_bounds}
 use Rattle.entry_slots.proofs.RowBlocks.{IsHome, room}
 
 -- a word of a block on which no reader of the block relies
-pub may_store_in : (sma : Sma) (ws : List ℕ) (aside : Aside) (e : Extent) (i : ℕ) → IsReady sma ws aside → Contains (live_blocks ws sma.from) e → e.place ≤ i → i < e.place + e.size
+pub may_store_in : (sma : Sma) (ws : List ℕ) (aside : Aside) (e : Extent) (i : ℕ) → IsReady sma ws aside → Contains (live_blocks ws sma.bounds.from) e → e.place ≤ i → i < e.place + e.size
     → (is_named aside.windows e.place ≡ true → IsApart ws e.place i) → MayStore ws aside.windows i
 unfolding Apart
 may_store_in sma ws aside e i ready live low high own x named =
@@ -41,7 +41,7 @@ may_date {e} {ws} {aside} row h at k place few two three =
     })
 
 -- a slot word
-pub may_slot : (sma : Sma) (ws : List ℕ) (aside : Aside) (i : ℕ) → IsReady sma ws aside → i < sma.from → MayStore ws aside.windows i
+pub may_slot : (sma : Sma) (ws : List ℕ) (aside : Aside) (i : ℕ) → IsReady sma ws aside → i < sma.bounds.from → MayStore ws aside.windows i
 may_slot sma ws aside i ready low x named =
     let block = ready.windows x named in
     let bounds = live_bounds sma ws aside (record { place = x; size = block.size }) ready block.live in

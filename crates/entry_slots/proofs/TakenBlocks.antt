@@ -26,35 +26,35 @@ use Rattle.entry_slots.proofs.DistinctPlaces.{count_blocks}
 use Rattle.entry_slots.proofs.KeySearch.{stands_along}
 
 -- the place is the one for all blocks
-pub take_place : {e : EntrySlots} {ws : List ℕ} {aside : Aside} (s : Entries) (n : ℕ) → Stands e ws aside s → first_fit e.sma.from e.sma.to e.sma.piece n (live_blocks ws e.sma.from) ≡ first_fit s.conf.slots s.conf.words (piece_of s.conf) n (blocks_of s)
+pub take_place : {e : EntrySlots} {ws : List ℕ} {aside : Aside} (s : Entries) (n : ℕ) → Stands e ws aside s → first_fit e.sma.bounds.from e.sma.bounds.to e.sma.bounds.piece n (live_blocks ws e.sma.bounds.from) ≡ first_fit s.conf.slots s.conf.words (piece_of s.conf) n (blocks_of s)
 take_place {e} {ws} s n h =
-    ap (λ from. first_fit from e.sma.to e.sma.piece n (live_blocks ws e.sma.from)) h.from
-    ∙ (ap (λ to. first_fit s.conf.slots to e.sma.piece n (live_blocks ws e.sma.from)) h.to
-    ∙ (ap (λ piece. first_fit s.conf.slots s.conf.words piece n (live_blocks ws e.sma.from)) h.piece
-    ∙ same_fit s.conf.slots s.conf.words (piece_of s.conf) n (live_blocks ws e.sma.from) (blocks_of s) h.blocks))
+    ap (λ from. first_fit from e.sma.bounds.to e.sma.bounds.piece n (live_blocks ws e.sma.bounds.from)) h.from
+    ∙ (ap (λ to. first_fit s.conf.slots to e.sma.bounds.piece n (live_blocks ws e.sma.bounds.from)) h.to
+    ∙ (ap (λ piece. first_fit s.conf.slots s.conf.words piece n (live_blocks ws e.sma.bounds.from)) h.piece
+    ∙ same_fit s.conf.slots s.conf.words (piece_of s.conf) n (live_blocks ws e.sma.bounds.from) (blocks_of s) h.blocks))
 
 -- what was not free is as it was
-pub row_same : (e : EntrySlots) (ws ws' : List ℕ) (blocks : List Extent) (row : Row) → SameBlocks ws ws' e.sma.from blocks → Contains blocks (extent_of row) → SameRow ws ws' row
+pub row_same : (e : EntrySlots) (ws ws' : List ℕ) (blocks : List Extent) (row : Row) → SameBlocks ws ws' e.sma.bounds.from blocks → Contains blocks (extent_of row) → SameRow ws ws' row
 row_same e ws ws' blocks row same c = record { count = same.count; same = λ i low high one. same.inside i (not_free i 1 blocks (extent_of row) c (omega arith) low high) }
 
-pub link_same : {e : EntrySlots} {ws : List ℕ} {aside : Aside} (ws' : List ℕ) (blocks : List Extent) (row : Row) → IsHome e ws aside row → SameBlocks ws ws' e.sma.from blocks → Contains blocks (extent_of row) → slice_index ws' (row.place + NEXT) ≡ slice_index ws (row.place + NEXT)
+pub link_same : {e : EntrySlots} {ws : List ℕ} {aside : Aside} (ws' : List ℕ) (blocks : List Extent) (row : Row) → IsHome e ws aside row → SameBlocks ws ws' e.sma.bounds.from blocks → Contains blocks (extent_of row) → slice_index ws' (row.place + NEXT) ≡ slice_index ws (row.place + NEXT)
 link_same ws' blocks row h same c = let w = room h in same.inside (row.place + NEXT) (not_free (row.place + NEXT) 1 blocks (extent_of row) c (omega arith) (omega arith) (omega (arith, w.enough)))
 
-take_unnamed : (e : EntrySlots) (ws : List ℕ) (aside : Aside) (at n : ℕ) → IsReady e.sma ws aside → 2 ≤ n → first_fit e.sma.from e.sma.to e.sma.piece n (live_blocks ws e.sma.from) ≡ Some at → is_named aside.windows at ≡ false
+take_unnamed : (e : EntrySlots) (ws : List ℕ) (aside : Aside) (at n : ℕ) → IsReady e.sma ws aside → 2 ≤ n → first_fit e.sma.bounds.from e.sma.bounds.to e.sma.bounds.piece n (live_blocks ws e.sma.bounds.from) ≡ Some at → is_named aside.windows at ≡ false
 take_unnamed e ws aside at n ready some fit =
     false_from_ne_true (is_named aside.windows at) (λ named.
     let block = ready.windows at named in
     let f : Extent = record { place = at; size = block.size } in
     let bounds = live_bounds e.sma ws aside f ready block.live in
-    false≢true (sym (not_free at n (live_blocks ws e.sma.from) f block.live (omega arith) (omega arith) (omega (arith, bounds.2))) ∙ fit_free e.sma.from e.sma.to e.sma.piece n at (live_blocks ws e.sma.from) fit))
+    false≢true (sym (not_free at n (live_blocks ws e.sma.bounds.from) f block.live (omega arith) (omega arith) (omega (arith, bounds.2))) ∙ fit_free e.sma.bounds.from e.sma.bounds.to e.sma.bounds.piece n at (live_blocks ws e.sma.bounds.from) fit))
 
 pub taken_stands : Laws → {e : EntrySlots} {ws : List ℕ} {aside : Aside} (s : Entries) (at n : ℕ) (sma' : Sma) (ws' : List ℕ) → Stands e ws aside s → 2 ≤ n
-    → first_fit e.sma.from e.sma.to e.sma.piece n (live_blocks ws e.sma.from) ≡ Some at
-    → live_blocks ws' e.sma.from ≡ with_block (record { place = at; size = n }) (live_blocks ws e.sma.from)
-    → SameBlocks ws ws' e.sma.from (live_blocks ws e.sma.from)
-    → sma'.from ≡ e.sma.from → sma'.to ≡ e.sma.to → sma'.piece ≡ e.sma.piece → IsReady sma' ws' aside → Stands (record e { sma = sma' }) ws' aside (with_taken at n s)
-taken_stands law {e} {ws} {aside} s at n sma' ws' h some fit live same ef et es ready =
-    let blocks : List Extent = live_blocks ws e.sma.from in
+    → first_fit e.sma.bounds.from e.sma.bounds.to e.sma.bounds.piece n (live_blocks ws e.sma.bounds.from) ≡ Some at
+    → live_blocks ws' e.sma.bounds.from ≡ with_block (record { place = at; size = n }) (live_blocks ws e.sma.bounds.from)
+    → SameBlocks ws ws' e.sma.bounds.from (live_blocks ws e.sma.bounds.from)
+    → sma'.bounds ≡ e.sma.bounds → IsReady sma' ws' aside → Stands (record e { sma = sma' }) ws' aside (with_taken at n s)
+taken_stands law {e} {ws} {aside} s at n sma' ws' h some fit live same eb ready =
+    let blocks : List Extent = live_blocks ws e.sma.bounds.from in
     let new : Extent = record { place = at; size = n } in
     let link : (row : Row) → IsHome e ws aside row → slice_index ws' (row.place + NEXT) ≡ slice_index ws (row.place + NEXT) = λ row home. link_same ws' blocks row home same home.live in
     let kept : (row : Row) → IsHome e ws aside row → IsEntry ws' row = λ row home. entry_kept law ws ws' row home.entry (row_same e ws ws' blocks row same home.live) in
@@ -71,31 +71,31 @@ taken_stands law {e} {ws} {aside} s at n sma' ws' h some fit live same ef et es 
         | inr later ↦ h.taken block later
       ];
       ready = ready;
-      blocks = record { count = λ test. ap (λ from. count_by test (live_blocks ws' from)) ef ∙ (ap (count_by test) live ∙ omega (arith, count-with_block test new blocks, count_blocks test (with_taken at n s), count_blocks test s, h.blocks.count test, count-cons test new s.taken)) };
+      blocks = record { count = λ test. ap (λ b. count_by test (live_blocks ws' b.from)) eb ∙ (ap (count_by test) live ∙ omega (arith, count-with_block test new blocks, count_blocks test (with_taken at n s), count_blocks test s, h.blocks.count test, count-cons test new s.taken)) };
       apart = h.apart;
       number = h.number;
       count = h.count;
       usable = h.usable;
-      from = ef ∙ h.from;
-      to = et ∙ h.to;
-      piece = es ∙ h.piece;
+      from = ap (λ b. b.from) eb ∙ h.from;
+      to = ap (λ b. b.to) eb ∙ h.to;
+      piece = ap (λ b. b.piece) eb ∙ h.piece;
     }
 
 -- what a call of the allocator tells
 pub take_some : Laws → (e : EntrySlots) (ws : List ℕ) (aside : Aside) (n : ℕ) (sma' : Sma) (ws' : List ℕ) (aside' : Aside) (r : Option ℕ) → 2 ≤ n
-    → r ≡ first_fit e.sma.from e.sma.to e.sma.piece n (live_blocks ws e.sma.from)
-    → IfSome r (λ at. live_blocks ws' e.sma.from ≡ with_block (record { place = at; size = n }) (live_blocks ws e.sma.from))
-    → SameBlocks ws ws' e.sma.from (live_blocks ws e.sma.from) → sma'.from ≡ e.sma.from → sma'.to ≡ e.sma.to → sma'.piece ≡ e.sma.piece → aside' ≡ aside → IsReady sma' ws' aside'
+    → r ≡ first_fit e.sma.bounds.from e.sma.bounds.to e.sma.bounds.piece n (live_blocks ws e.sma.bounds.from)
+    → IfSome r (λ at. live_blocks ws' e.sma.bounds.from ≡ with_block (record { place = at; size = n }) (live_blocks ws e.sma.bounds.from))
+    → SameBlocks ws ws' e.sma.bounds.from (live_blocks ws e.sma.bounds.from) → sma'.bounds ≡ e.sma.bounds → aside' ≡ aside → IsReady sma' ws' aside'
     → IfSome r (λ at. (s : Entries) → Stands e ws aside s → Stands (record e { sma = sma' }) ws' aside' (with_taken at n s))
-take_some law e ws aside n sma' ws' aside' None some fit live same ef et es ea ready = tt
-take_some law e ws aside n sma' ws' aside' (Some at) some fit live same ef et es ea ready = λ s h.
+take_some law e ws aside n sma' ws' aside' None some fit live same eb ea ready = tt
+take_some law e ws aside n sma' ws' aside' (Some at) some fit live same eb ea ready = λ s h.
     subst (λ a. Stands (record e { sma = sma' }) ws' a (with_taken at n s)) (sym ea)
-    (taken_stands law s at n sma' ws' h some (sym fit) live same ef et es (subst (λ a. IsReady sma' ws' a) ea ready))
+    (taken_stands law s at n sma' ws' h some (sym fit) live same eb (subst (λ a. IsReady sma' ws' a) ea ready))
 
 -- where nothing was taken
-pub take_none : {e : EntrySlots} {ws : List ℕ} {aside : Aside} {s : Entries} (sma' : Sma) (ws' : List ℕ) (aside' : Aside) → Stands e ws aside s → sma'.from ≡ e.sma.from → sma'.to ≡ e.sma.to → sma'.piece ≡ e.sma.piece → IsReady sma' ws' aside' → ws' ≡ ws → aside' ≡ aside
+pub take_none : {e : EntrySlots} {ws : List ℕ} {aside : Aside} {s : Entries} (sma' : Sma) (ws' : List ℕ) (aside' : Aside) → Stands e ws aside s → sma'.bounds ≡ e.sma.bounds → IsReady sma' ws' aside' → ws' ≡ ws → aside' ≡ aside
     → Stands (record e { sma = sma' }) ws' aside' s
-take_none {e} {ws} {aside} {s} sma' ws' aside' h ef et es ready ew ea =
+take_none {e} {ws} {aside} {s} sma' ws' aside' h eb ready ew ea =
     let k = stands_along ws' aside' h ew ea in
     record {
       chains = k.chains;
@@ -105,12 +105,12 @@ take_none {e} {ws} {aside} {s} sma' ws' aside' h ef et es ready ew ea =
       unlinked = k.unlinked;
       taken = k.taken;
       ready = ready;
-      blocks = record { count = λ test. ap (λ from. count_by test (live_blocks ws' from)) ef ∙ k.blocks.count test };
+      blocks = record { count = λ test. ap (λ b. count_by test (live_blocks ws' b.from)) eb ∙ k.blocks.count test };
       apart = k.apart;
       number = k.number;
       count = k.count;
       usable = k.usable;
-      from = ef ∙ k.from;
-      to = et ∙ k.to;
-      piece = es ∙ k.piece;
+      from = ap (λ b. b.from) eb ∙ k.from;
+      to = ap (λ b. b.to) eb ∙ k.to;
+      piece = ap (λ b. b.piece) eb ∙ k.piece;
     }

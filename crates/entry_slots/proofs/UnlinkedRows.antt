@@ -60,7 +60,7 @@ link_back {e} {ws} s h slot at m some link = go link.back link.rest
     go [] rest = absurd (some rest)
     go (row ∷ more) rest = (row, more, refl, sym rest.0)
 
-pub unlink_stands : Laws → {e : EntrySlots} {ws : List ℕ} {aside : Aside} (s : Entries) (h : Stands e ws aside s) (at slot m next : ℕ) → slot < e.sma.from → has_place at (chain_of s slot) ≡ true → IsLinkTo ws slot (chain_of s slot) at m → next ≡ slice_index ws (at + NEXT)
+pub unlink_stands : Laws → {e : EntrySlots} {ws : List ℕ} {aside : Aside} (s : Entries) (h : Stands e ws aside s) (at slot m next : ℕ) → slot < e.sma.bounds.from → has_place at (chain_of s slot) ≡ true → IsLinkTo ws slot (chain_of s slot) at m → next ≡ slice_index ws (at + NEXT)
     → (count : ℕ) → count + 1 ≡ e.count → Stands (record e { count = count }) (slice_set ws m next) aside (unlinked_at at s)
 unlink_stands law {e} {ws} {aside} s h at slot m next lt there link en count ec =
     let own = any_there (is_at at) (chain_of s slot) there in

@@ -28,7 +28,7 @@ only_set ws ws' low high i v h l k = record {
 }
 
 -- the lengths in a block that a window names stay where words change from word 4 of a block on
-pub named_same : (sma : Sma) (ws : List ℕ) (aside : Aside) (e : Extent) → IsReady sma ws aside → Contains (live_blocks ws sma.from) e → (ws' : List ℕ) → OnlyIn ws ws' (e.place + TTL) (e.place + e.size)
+pub named_same : (sma : Sma) (ws : List ℕ) (aside : Aside) (e : Extent) → IsReady sma ws aside → Contains (live_blocks ws sma.bounds.from) e → (ws' : List ℕ) → OnlyIn ws ws' (e.place + TTL) (e.place + e.size)
     → (x : ℕ) → is_named aside.windows x ≡ true → (slice_index ws' (x + KEY_LENGTH) ≡ slice_index ws (x + KEY_LENGTH)) × (slice_index ws' (x + IMAGE_LENGTH) ≡ slice_index ws (x + IMAGE_LENGTH))
 unfolding Apart
 named_same sma ws aside e ready live ws' only x named =

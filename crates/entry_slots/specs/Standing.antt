@@ -72,16 +72,16 @@ pub record Stands (e : EntrySlots) (words : List ℕ) (aside : Aside) (s : Entri
   pub taken : AreUnnamed aside.windows s.taken
   -- and with the blocks that were taken they are all the live blocks
   pub ready : IsReady e.sma words aside
-  pub blocks : HaveSame (live_blocks words e.sma.from) (blocks_of s)
+  pub blocks : HaveSame (live_blocks words e.sma.bounds.from) (blocks_of s)
   -- no two rows have one key
   pub apart : are_apart s.rows ≡ true
   pub number : e.next_number ≡ s.next_number
   pub count : e.count ≡ length s.rows
   -- the bounds are those of the shape
   pub usable : IsUsable s.conf
-  pub from : e.sma.from ≡ s.conf.slots
-  pub to : e.sma.to ≡ s.conf.words
-  pub piece : e.sma.piece ≡ piece_of s.conf
+  pub from : e.sma.bounds.from ≡ s.conf.slots
+  pub to : e.sma.bounds.to ≡ s.conf.words
+  pub piece : e.sma.bounds.piece ≡ piece_of s.conf
 
 -- the entries that are kept beside the words
 abbrev pub entries : EntrySlots → Entries

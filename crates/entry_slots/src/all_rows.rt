@@ -47,7 +47,7 @@ impl EntrySlots {
         requires stand { IsStanding self.now }
         ensures slots { result ≡ (entries self.now).conf.slots }
     {
-        self.sma.from
+        self.sma.bounds.from
     }
 
     /// How many words the segment has.
@@ -55,7 +55,7 @@ impl EntrySlots {
         requires stand { IsStanding self.now }
         ensures words { result ≡ (entries self.now).conf.words }
     {
-        self.sma.to
+        self.sma.bounds.to
     }
 
     /// The allocator, for what is told of the gaps.
@@ -84,7 +84,7 @@ impl EntrySlots {
         ensures kept { Kept S.WordsIn seg.old seg.new }
     {
         let free = self.sma.free_words(seg);
-        let mut words = self.sma.to - self.sma.from - free;
+        let mut words = self.sma.bounds.to - self.sma.bounds.from - free;
         let mut at = self.removed;
         while at != 0 {
             words -= seg.load(at) as u32;

@@ -42,14 +42,15 @@ impl EntrySlots {
     // Ends the chain of each slot at its slot word, whatever windows are open.
     fn end_all<S: Segment>(&self, seg: &mut S)
         requires ready { IsReady self.now.sma (S.words seg.old) (S.aside seg.old) }
-        requires inside { self.now.sma.from ≤ length (S.words seg.old) }
-        ensures others { ChangesBefore (S.words seg.old) (S.words seg.new) self.now.sma.from }
-        ensures ended { (slot : ℕ) → slot < self.now.sma.from
+        requires inside { self.now.sma.bounds.from ≤ length (S.words seg.old) }
+        ensures others { ChangesBefore (S.words seg.old) (S.words seg.new)
+            self.now.sma.bounds.from }
+        ensures ended { (slot : ℕ) → slot < self.now.sma.bounds.from
             → slice_index (S.words seg.new) slot ≡ 0 }
         ensures beside { KeptBeside S.WordsIn seg.old seg.new }
     {
         block_laws();
-        for slot in 0..self.sma.from {
+        for slot in 0..self.sma.bounds.from {
             seg.store(slot, 0);
         }
     }

@@ -82,7 +82,7 @@ impl EntrySlots {
     {
         let mut link = 0;
         let mut named = self.removed;
-        for _passed in 0..self.sma.to {
+        for _passed in 0..self.sma.bounds.to {
             if named == target {
                 return Some(link);
             }

@@ -250,11 +250,11 @@ impl EntrySlots {
 
     // The slot of a key.
     fn slot_for(&self, key: &[u8]) -> u32
-        requires { (2 ≤ self.now.sma.from) × (self.now.sma.from ≤ 1048576) }
-        ensures slot { result ≡ hash_of key.now % self.now.sma.from }
-        ensures low { result < self.now.sma.from }
+        requires { (2 ≤ self.now.sma.bounds.from) × (self.now.sma.bounds.from ≤ 1048576) }
+        ensures slot { result ≡ hash_of key.now % self.now.sma.bounds.from }
+        ensures low { result < self.now.sma.bounds.from }
     {
-        slot_in(hash_of(key), self.sma.from)
+        slot_in(hash_of(key), self.sma.bounds.from)
     }
 
     /// Takes the row out of its chain. Its block is loose from now on.
@@ -323,11 +323,11 @@ impl EntrySlots {
         requires there { has_place at (entries self.now).rows ≡ true }
         ensures slot { (row : Row) → Contains (entries self.now).rows row → row.place ≡ at
             → result ≡ slot_of (entries self.now).conf row.key }
-        ensures low { result < self.now.sma.from }
+        ensures low { result < self.now.sma.bounds.from }
         ensures kept { Kept S.WordsIn seg.old seg.new }
     {
         let len = seg.load(at + KEY_LENGTH) as u32;
-        slot_in(hash_at(seg, at + HEAD_WORDS, len), self.sma.from)
+        slot_in(hash_at(seg, at + HEAD_WORDS, len), self.sma.bounds.from)
     }
 
     // What follows the row at a place; nothing follows the place 0.
@@ -349,7 +349,7 @@ impl EntrySlots {
     fn link_to<S: Segment>(&self, seg: &mut S, slot: u32, target: u32) -> u32
         requires stand { Stand S.WordsIn self.now seg.old }
         requires there { IsTarget (entries self.now) slot target }
-        requires slot { slot < self.now.sma.from }
+        requires slot { slot < self.now.sma.bounds.from }
         ensures link { IsLinkTo (S.words seg.old) slot
             (chain_of (entries self.now) slot) target result }
         ensures kept { Kept S.WordsIn seg.old seg.new }

@@ -54,7 +54,7 @@ impl EntrySlots {
         requires stand { IsStanding self.now }
         ensures slot { result ≡ slot_of (entries self.now).conf key.now }
     {
-        slot_in(hash_of(key), self.sma.from)
+        slot_in(hash_of(key), self.sma.bounds.from)
     }
 
     /// Finds where the row of a key stands, by one walk along the chain of its slot as far as

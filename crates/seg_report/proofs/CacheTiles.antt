@@ -8,12 +8,12 @@ use Rattle.seg_words.specs.declared.gaps.Extent.{Extent}
 use Rattle.seg_words.specs.Gaps.{free_runs, is_free, runs_of}
 use Rattle.seg_words.specs.Members.{filter_alike}
 use Rattle.seg_words.specs.Windows.{Aside}
-use Rattle.sma_blocks.specs.Live.{gaps, live_blocks}
+use Rattle.sma_blocks.specs.Live.{gaps, free_runs_in, live_blocks}
 use Rattle.sma_blocks.specs.Tiles.{tiles}
 use Rattle.sma_blocks.proofs.TileLemmas.{edge_start}
 use Rattle.sma_blocks.proofs.FitPlaces.{FitParts, FitWhole, FitSome, FitNone}
-use Rattle.sma_blocks.proofs.Spans.{span_of, filled_of}
-use Rattle.sma_blocks.proofs.SpanFreeRuns.{free_runs_of}
+use Rattle.sma_blocks.proofs.FilledWords.{filled_of}
+use Rattle.sma_blocks.proofs.FilledFreeRuns.{free_runs_of}
 use Rattle.apcu_model.specs.Cache.{extent_of}
 use Rattle.apcu_model.specs.Conf.{piece_of}
 use Rattle.apcu_model.specs.declared.conf.Conf.{Conf}
@@ -40,7 +40,7 @@ runs_alike from to piece xs ys same =
 
 module _ (e : EntrySlots) (ws : List ℕ) (aside : Aside) (s : Entries) (stand : Stands e ws aside s) (whole : IsWhole s) where
   from : ℕ
-  from = e.sma.from
+  from = e.sma.bounds.from
 
   blocks_whole : blocks_of s ≡ map extent_of (s.rows ++ s.removed)
   blocks_whole =
@@ -50,22 +50,21 @@ module _ (e : EntrySlots) (ws : List ℕ) (aside : Aside) (s : Entries) (stand :
       ∙ ap (λ l. map extent_of s.rows ++ l) (append-nil (map extent_of s.removed))
       ∙ sym (map-append extent_of s.rows s.removed)
 
-  pub runs_stand : free_runs e.sma.from e.sma.to e.sma.piece (live_blocks ws e.sma.from)
-      ≡ gaps_in s.conf s.rows s.removed
+  pub runs_stand : free_runs_in e.sma.bounds ws ≡ gaps_in s.conf s.rows s.removed
   runs_stand =
-      let live = live_blocks ws e.sma.from in
-      ap (λ n. free_runs n e.sma.to e.sma.piece live) stand.from
-      ∙ ap (λ n. free_runs s.conf.slots n e.sma.piece live) stand.to
+      let live = live_blocks ws e.sma.bounds.from in
+      ap (λ n. free_runs n e.sma.bounds.to e.sma.bounds.piece live) stand.from
+      ∙ ap (λ n. free_runs s.conf.slots n e.sma.bounds.piece live) stand.to
       ∙ ap (λ n. free_runs s.conf.slots s.conf.words n live) stand.piece
       ∙ runs_alike s.conf.slots s.conf.words (piece_of s.conf) live (blocks_of s) stand.blocks
       ∙ ap (free_runs s.conf.slots s.conf.words (piece_of s.conf)) blocks_whole
 
   -- the runs are the gaps among the tiles
-  pub runs_tiles : gaps_in s.conf s.rows s.removed ≡ gaps (tiles ws e.sma.from)
-  runs_tiles = sym runs_stand ∙ free_runs_of (span_of e.sma) ws aside (filled_of stand.ready)
+  pub runs_tiles : gaps_in s.conf s.rows s.removed ≡ gaps (tiles ws e.sma.bounds.from)
+  runs_tiles = sym runs_stand ∙ free_runs_of e.sma.bounds ws aside (filled_of stand.ready)
 
-  pub tiled_all : AreTiled s.rows s.removed (gaps_in s.conf s.rows s.removed) e.sma.from (length ws)
-      (tiles ws e.sma.from)
+  pub tiled_all : AreTiled s.rows s.removed (gaps_in s.conf s.rows s.removed) e.sma.bounds.from (length ws)
+      (tiles ws e.sma.bounds.from)
   tiled_all = record {
     blocks = λ w low high test.
         ap (count_by (λ block. begins_at w block && test block)) (sym blocks_whole)
@@ -74,7 +73,7 @@ module _ (e : EntrySlots) (ws : List ℕ) (aside : Aside) (s : Entries) (stand :
   }
 
   -- all parts, between the bounds of the tiles
-  pub parts_all : parts_between s.rows s.removed (gaps_in s.conf s.rows s.removed) e.sma.from
+  pub parts_all : parts_between s.rows s.removed (gaps_in s.conf s.rows s.removed) e.sma.bounds.from
       (length ws) ≡ parts_in s.conf s.rows s.removed
   parts_all =
       let f = parts_between s.rows s.removed (gaps_in s.conf s.rows s.removed) in
@@ -84,9 +83,9 @@ module _ (e : EntrySlots) (ws : List ℕ) (aside : Aside) (s : Entries) (stand :
   pub sizes_all : sum_by size_of (parts_in s.conf s.rows s.removed) ≡ s.conf.words - s.conf.slots
   sizes_all =
       ap (sum_by size_of) (sym parts_all)
-      ∙ sizes_sum ws s.rows s.removed (gaps_in s.conf s.rows s.removed) e.sma.from (length ws)
-      (tiles ws e.sma.from) stand.ready.formatted.full tiled_all
-      ∙ ap (λ n. n - e.sma.from) (sym stand.ready.end ∙ stand.to)
+      ∙ sizes_sum ws s.rows s.removed (gaps_in s.conf s.rows s.removed) e.sma.bounds.from (length ws)
+      (tiles ws e.sma.bounds.from) stand.ready.formatted.full tiled_all
+      ∙ ap (λ n. n - e.sma.bounds.from) (sym stand.ready.end ∙ stand.to)
       ∙ ap (λ n. s.conf.words - n) stand.from
 
   pub room_all : FitParts → FitWhole → FitSome → FitNone → (n : ℕ) → n % 2 ≡ 0 → 2 ≤ n
@@ -97,30 +96,30 @@ module _ (e : EntrySlots) (ws : List ℕ) (aside : Aside) (s : Entries) (stand :
       let blocks = map extent_of (s.rows ++ s.removed) in
       let took = takes_all parts fit some none
       (λ from to piece m xs ys same. same_fit from to piece m xs ys (record { count = same }))
-      (span_of e.sma) aside n even two k ws blocks (filled_of stand.ready)
+      e.sma.bounds aside n even two k ws blocks (filled_of stand.ready)
       (ap (blocks_in n) (sym runs_tiles))
       (λ test. ap (count_by test) (sym blocks_whole) ∙ sym (stand.blocks.count test)) in
       subst (λ x. TakesAll s.conf.slots s.conf.words x n k blocks) stand.piece
-      (subst (λ x. TakesAll s.conf.slots x e.sma.piece n k blocks) stand.to
-      (subst (λ x. TakesAll x e.sma.to e.sma.piece n k blocks) stand.from took))
+      (subst (λ x. TakesAll s.conf.slots x e.sma.bounds.piece n k blocks) stand.to
+      (subst (λ x. TakesAll x e.sma.bounds.to e.sma.bounds.piece n k blocks) stand.from took))
 
 -- ---- the walk over them
 
 module _ (e : EntrySlots) (ws : List ℕ) (aside : Aside) (s : Entries) (stand : Stands e ws aside s) (whole : IsWhole s) where
   pub starts : (at : ℕ) → at ≡ s.conf.slots → (gap : Option (ℕ × ℕ))
       → gap ≡ option_map pair_of (find (λ run. nat_le at run.place)
-      (free_runs e.sma.from e.sma.to e.sma.piece (live_blocks ws e.sma.from)))
-      → IsAtPart ws s e.sma.from at gap
+      (free_runs_in e.sma.bounds ws))
+      → IsAtPart ws s e.sma.bounds.from at gap
   starts at is gap found =
-      let first = edge_start ws e.sma.from stand.ready.formatted.full in
-      let same : e.sma.from ≡ at = stand.from ∙ sym is in
+      let first = edge_start ws e.sma.bounds.from stand.ready.formatted.full in
+      let same : e.sma.bounds.from ≡ at = stand.from ∙ sym is in
       subst (λ a. gap ≡ option_map pair_of (find (λ run. nat_le a run.place)
-      (free_runs e.sma.from e.sma.to e.sma.piece (live_blocks ws e.sma.from)))
-      → IsAtPart ws s e.sma.from a gap) same
+      (free_runs_in e.sma.bounds ws))
+      → IsAtPart ws s e.sma.bounds.from a gap) same
       (λ told. record {
         edge = first;
         tiled = tiled_all e ws aside s stand whole;
-        gap_is = told_ahead e.sma ws ws aside e.sma.from gap stand.ready first refl told;
+        gap_is = told_ahead e.sma ws ws aside e.sma.bounds.from gap stand.ready first refl told;
       }) found
 
   pub text_starts : (at : ℕ) → at ≡ s.conf.slots
@@ -157,8 +156,7 @@ module _ (core : Core) (ws : List ℕ) (aside : Aside) (stands : CoreStands core
       ∙ sizes_all core.slots ws aside (entries core.slots) stands.stand core_whole
       ∙ ap (λ (f : Conf). f.words - f.slots) shape
 
-  pub core_runs : free_runs core.slots.sma.from core.slots.sma.to core.slots.sma.piece
-      (live_blocks ws core.slots.sma.from)
+  pub core_runs : free_runs_in core.slots.sma.bounds ws
       ≡ gaps_in core.conf (entries core.slots).rows (entries core.slots).removed
   core_runs =
       runs_stand core.slots ws aside (entries core.slots) stands.stand core_whole

@@ -18,7 +18,8 @@ use Rattle.sma_blocks.specs.Tiles.{Tile, tiles, Fill}
 use Rattle.sma_blocks.specs.Live.{gaps, live_blocks, with_block}
 use Rattle.sma_blocks.specs.Index.{size_at, IsIndexed}
 use Rattle.sma_blocks.specs.Walk.{cut_words}
-use Rattle.sma_blocks.proofs.Spans.{Span, IsFilled}
+use Rattle.sma_blocks.specs.declared.bounds.Bounds.{Bounds}
+use Rattle.sma_blocks.proofs.FilledWords.{IsFilled}
 use Rattle.sma_blocks.proofs.TileLemmas.{edge_whole}
 use Rattle.sma_blocks.proofs.LiveBlocks.{tile_extent}
 use Rattle.sma_blocks.proofs.FitPlaces.{FitParts, FitWhole, FitSome, FitNone}
@@ -92,22 +93,22 @@ left_blocks at size n some enough =
     ]
 
 -- a block that is taken from a gap takes one from the count
-one_less : {span : Span} {ws : List ℕ} {aside : Aside} {at size n : ℕ} (h : Room span ws aside at size n)
-    → blocks_in n (gaps (tiles ws span.from))
-    ≡ suc (blocks_in n (gaps (tiles (cut_words ws at size n) span.from)))
-one_less {span} {ws} {aside} {at} {size} {n} h =
+one_less : {bounds : Bounds} {ws : List ℕ} {aside : Aside} {at size n : ℕ} (h : Room bounds ws aside at size n)
+    → blocks_in n (gaps (tiles ws bounds.from))
+    ≡ suc (blocks_in n (gaps (tiles (cut_words ws at size n) bounds.from)))
+one_less {bounds} {ws} {aside} {at} {size} {n} h =
     let passed = h.edge.passed in
     let rest = tiles ws (at + size) in
     let gap : Tile = record { place = at; size = size; live = false } in
-    let was : tiles ws span.from ≡ passed ++ gap ∷ rest =
-    edge_whole ws span.from at h.edge ∙ ap (λ ps. passed ++ ps) h.is in
-    let old : blocks_in n (gaps (tiles ws span.from))
+    let was : tiles ws bounds.from ≡ passed ++ gap ∷ rest =
+    edge_whole ws bounds.from at h.edge ∙ ap (λ ps. passed ++ ps) h.is in
+    let old : blocks_in n (gaps (tiles ws bounds.from))
     ≡ blocks_in n (gaps passed) + (size / n + blocks_in n (gaps rest)) =
     ap (λ ps. blocks_in n (gaps ps)) was ∙ ap (blocks_in n) (gaps-append passed (gap ∷ rest))
     ∙ blocks-append n (gaps passed) (gaps (gap ∷ rest))
     ∙ ap (λ (k : ℕ). blocks_in n (gaps passed) + k) (blocks-cons n (tile_extent gap) (gaps rest)) in
     let left = left_over at size n in
-    let now : blocks_in n (gaps (tiles (cut_words ws at size n) span.from))
+    let now : blocks_in n (gaps (tiles (cut_words ws at size n) bounds.from))
     ≡ blocks_in n (gaps passed) + (blocks_in n (gaps left) + blocks_in n (gaps rest)) =
     ap (λ ps. blocks_in n (gaps ps)) (change_tiles (take_change h))
     ∙ ap (blocks_in n) (gaps-append passed (taken at n ∷ (left ++ rest)))
@@ -143,20 +144,20 @@ abbrev pub FitSame : Type 0
 FitSame = (from to piece n : ℕ) (xs ys : List Extent) → AreSame xs ys
     → first_fit from to piece n xs ≡ first_fit from to piece n ys
 
-module _ (parts : FitParts) (whole : FitWhole) (some : FitSome) (none : FitNone) (same : FitSame) (span : Span) (aside : Aside) (n : ℕ) (even : n % 2 ≡ 0) (two : 2 ≤ n) where
+module _ (parts : FitParts) (whole : FitWhole) (some : FitSome) (none : FitNone) (same : FitSame) (bounds : Bounds) (aside : Aside) (n : ℕ) (even : n % 2 ≡ 0) (two : 2 ≤ n) where
   -- the numbers of the gaps are those at even places
-  index : (ws : List ℕ) → IsFilled span ws aside → IsIndexed ws span.from (sizes_of ws span.from)
-  index ws filled = indexed ws span.from filled.formatted.full
+  index : (ws : List ℕ) → IsFilled bounds ws aside → IsIndexed ws bounds.from (sizes_of ws bounds.from)
+  index ws filled = indexed ws bounds.from filled.formatted.full
 
   -- where none of them is large enough no gap is
-  small : (ws : List ℕ) → IsFilled span ws aside
-      → position (λ value. nat_le n value) (sizes_of ws span.from) ≡ None
-      → (q : ℕ) → q % 2 ≡ 0 → size_at (tiles ws span.from) q < n
+  small : (ws : List ℕ) → IsFilled bounds ws aside
+      → position (λ value. nat_le n value) (sizes_of ws bounds.from) ≡ None
+      → (q : ℕ) → q % 2 ≡ 0 → size_at (tiles ws bounds.from) q < n
   small ws filled nowhere q e =
-      let numbers = sizes_of ws span.from in
+      let numbers = sizes_of ws bounds.from in
       let half : q / 2 + q / 2 ≡ q = omega arith in
-      let told : get_or numbers (q / 2) 0 ≡ size_at (tiles ws span.from) q =
-      (index ws filled).told (q / 2) ∙ ap (λ (x : ℕ). size_at (tiles ws span.from) x) half in
+      let told : get_or numbers (q / 2) 0 ≡ size_at (tiles ws bounds.from) q =
+      (index ws filled).told (q / 2) ∙ ap (λ (x : ℕ). size_at (tiles ws bounds.from) x) half in
       elim (cases_lt (q / 2) (length numbers)) [
         | inl inside ↦
             omega (
@@ -168,16 +169,16 @@ module _ (parts : FitParts) (whole : FitWhole) (some : FitSome) (none : FitNone)
       ]
 
   -- no gap is large enough
-  ends : (ws : List ℕ) (es : List Extent) → IsFilled span ws aside
-      → AreSame es (live_blocks ws span.from)
-      → position (λ value. nat_le n value) (sizes_of ws span.from) ≡ None
-      → (first_fit span.from span.to span.piece n es ≡ None)
-      × (blocks_in n (gaps (tiles ws span.from)) ≡ 0)
+  ends : (ws : List ℕ) (es : List Extent) → IsFilled bounds ws aside
+      → AreSame es (live_blocks ws bounds.from)
+      → position (λ value. nat_le n value) (sizes_of ws bounds.from) ≡ None
+      → (first_fit bounds.from bounds.to bounds.piece n es ≡ None)
+      × (blocks_in n (gaps (tiles ws bounds.from)) ≡ 0)
   ends ws es filled alike nowhere = (
-    same span.from span.to span.piece n es (live_blocks ws span.from) alike
-        ∙ take_none parts none span ws aside (sizes_of ws span.from) n filled (index ws filled) nowhere
+    same bounds.from bounds.to bounds.piece n es (live_blocks ws bounds.from) alike
+        ∙ take_none parts none bounds ws aside (sizes_of ws bounds.from) n filled (index ws filled) nowhere
         two,
-    none_in ws n span.from (tiles ws span.from) (length ws) filled.formatted.full
+    none_in ws n bounds.from (tiles ws bounds.from) (length ws) filled.formatted.full
         filled.formatted.even (small ws filled nowhere),
   )
 
@@ -185,24 +186,24 @@ module _ (parts : FitParts) (whole : FitWhole) (some : FitSome) (none : FitNone)
   record IsTaken (ws : List ℕ) (es : List Extent) : Type 0 where
     pub at : ℕ
     pub next : List ℕ
-    pub place : first_fit span.from span.to span.piece n es ≡ Some at
-    pub filled : IsFilled span next aside
-    pub less : blocks_in n (gaps (tiles ws span.from)) ≡ suc (blocks_in n (gaps (tiles next span.from)))
-    pub alike : AreSame (record { place = at; size = n } ∷ es) (live_blocks next span.from)
+    pub place : first_fit bounds.from bounds.to bounds.piece n es ≡ Some at
+    pub filled : IsFilled bounds next aside
+    pub less : blocks_in n (gaps (tiles ws bounds.from)) ≡ suc (blocks_in n (gaps (tiles next bounds.from)))
+    pub alike : AreSame (record { place = at; size = n } ∷ es) (live_blocks next bounds.from)
 
-  takes : (ws : List ℕ) (es : List Extent) → IsFilled span ws aside
-      → AreSame es (live_blocks ws span.from) → (i : ℕ)
-      → position (λ value. nat_le n value) (sizes_of ws span.from) ≡ Some i → IsTaken ws es
+  takes : (ws : List ℕ) (es : List Extent) → IsFilled bounds ws aside
+      → AreSame es (live_blocks ws bounds.from) → (i : ℕ)
+      → position (λ value. nat_le n value) (sizes_of ws bounds.from) ≡ Some i → IsTaken ws es
   takes ws es filled alike i found =
-      let size = get_or (sizes_of ws span.from) i 0 in
-      let room = take_found parts span ws aside (sizes_of ws span.from) n i (i + i) filled
+      let size = get_or (sizes_of ws bounds.from) i 0 in
+      let room = take_found parts bounds ws aside (sizes_of ws bounds.from) n i (i + i) filled
       (index ws filled) found even two refl in
       let e : Extent = record { place = i + i; size = n } in
-      let blocks = live_blocks ws span.from in
+      let blocks = live_blocks ws bounds.from in
       record {
         at = i + i;
         next = cut_words ws (i + i) size n;
-        place = same span.from span.to span.piece n es blocks alike
+        place = same bounds.from bounds.to bounds.piece n es blocks alike
             ∙ take_place some whole room.0 room.1;
         filled = take_ready room.0;
         less = one_less room.0;
@@ -212,25 +213,25 @@ module _ (parts : FitParts) (whole : FitWhole) (some : FitSome) (none : FitNone)
             ∙ ap (count_by test) (sym (take_more room.0));
       }
 
-  pub takes_all : (k : ℕ) (ws : List ℕ) (es : List Extent) → IsFilled span ws aside
-      → blocks_in n (gaps (tiles ws span.from)) ≡ k → AreSame es (live_blocks ws span.from)
-      → TakesAll span.from span.to span.piece n k es
+  pub takes_all : (k : ℕ) (ws : List ℕ) (es : List Extent) → IsFilled bounds ws aside
+      → blocks_in n (gaps (tiles ws bounds.from)) ≡ k → AreSame es (live_blocks ws bounds.from)
+      → TakesAll bounds.from bounds.to bounds.piece n k es
   takes_all zero ws es filled count alike =
-      go (position (λ value. nat_le n value) (sizes_of ws span.from)) refl
+      go (position (λ value. nat_le n value) (sizes_of ws bounds.from)) refl
     where
-      go : (o : Option ℕ) → position (λ value. nat_le n value) (sizes_of ws span.from) ≡ o
-          → first_fit span.from span.to span.piece n es ≡ None
+      go : (o : Option ℕ) → position (λ value. nat_le n value) (sizes_of ws bounds.from) ≡ o
+          → first_fit bounds.from bounds.to bounds.piece n es ≡ None
       go None nowhere = (ends ws es filled alike nowhere).0
       go (Some i) found = absurd (omega (arith, count, (takes ws es filled alike i found).less))
   takes_all (suc k) ws es filled count alike =
-      go (position (λ value. nat_le n value) (sizes_of ws span.from)) refl
+      go (position (λ value. nat_le n value) (sizes_of ws bounds.from)) refl
       (λ t. takes_all k t.next (record { place = t.at; size = n } ∷ es) t.filled
       (omega (arith, count, t.less)) t.alike)
     where
-      go : (o : Option ℕ) → position (λ value. nat_le n value) (sizes_of ws span.from) ≡ o
+      go : (o : Option ℕ) → position (λ value. nat_le n value) (sizes_of ws bounds.from) ≡ o
           → ((t : IsTaken ws es)
-          → TakesAll span.from span.to span.piece n k (record { place = t.at; size = n } ∷ es))
-          → TakesAll span.from span.to span.piece n (suc k) es
+          → TakesAll bounds.from bounds.to bounds.piece n k (record { place = t.at; size = n } ∷ es))
+          → TakesAll bounds.from bounds.to bounds.piece n (suc k) es
       go None nowhere rest = absurd (omega (arith, count, (ends ws es filled alike nowhere).1))
       go (Some i) found rest =
           let t = takes ws es filled alike i found in (t.at, t.place, rest t)

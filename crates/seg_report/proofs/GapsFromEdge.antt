@@ -7,13 +7,12 @@ use Rattle.std.proofs.lemmas.Bool.{cases_Bool}
 use Rattle.std.proofs.lemmas.Bool.Decides.{nat_tests}
 use Rattle.seg_words.specs.declared.gaps.Extent.{Extent}
 use Rattle.sma_blocks.specs.Tiles.{Tile, tiles, Fill, tile_of}
-use Rattle.seg_words.specs.Gaps.{free_runs}
 use Rattle.seg_words.specs.Windows.{Aside}
 use Rattle.sma_blocks.specs.declared.sma.Sma.{Sma}
-use Rattle.sma_blocks.specs.Live.{gaps, live_blocks}
+use Rattle.sma_blocks.specs.Live.{gaps, free_runs_in}
 use Rattle.sma_blocks.specs.Ready.{IsReady}
-use Rattle.sma_blocks.proofs.Spans.{span_of, filled_of}
-use Rattle.sma_blocks.proofs.SpanFreeRuns.{free_runs_of}
+use Rattle.sma_blocks.proofs.FilledWords.{filled_of}
+use Rattle.sma_blocks.proofs.FilledFreeRuns.{free_runs_of}
 use Rattle.sma_blocks.specs.Walk.{IsEdge}
 use Rattle.sma_blocks.proofs.TileLemmas.{Fill-le, tiles-filled, edge_next, edge_whole, next_at}
 use Rattle.sma_blocks.proofs.FirstFit.{edge_behind}
@@ -161,13 +160,12 @@ tile_here ws from at h low =
 
 -- what the allocator answers from an edge on
 pub told_ahead : (sma : Sma) (ws w : List ℕ) (aside : Aside) (at : ℕ) (r : Option (ℕ × ℕ))
-    → IsReady sma ws aside → IsEdge ws sma.from at → w ≡ ws
-    → r ≡ option_map pair_of (find (λ run. nat_le at run.place)
-    (free_runs sma.from sma.to sma.piece (live_blocks w sma.from)))
+    → IsReady sma ws aside → IsEdge ws sma.bounds.from at → w ≡ ws
+    → r ≡ option_map pair_of (find (λ run. nat_le at run.place) (free_runs_in sma.bounds w))
     → r ≡ option_map pair_of (first_of (gaps (tiles ws at)))
 told_ahead sma ws w aside at r ready edge same is =
     let found : List Extent → Option (ℕ × ℕ) =
     λ runs. option_map pair_of (find (λ run. nat_le at run.place) runs) in
-    is ∙ ap (λ v. found (free_runs sma.from sma.to sma.piece (live_blocks v sma.from))) same
-    ∙ ap found (free_runs_of (span_of sma) ws aside (filled_of ready))
-    ∙ ap (option_map pair_of) (found_ahead ws sma.from at edge)
+    is ∙ ap (λ v. found (free_runs_in sma.bounds v)) same
+    ∙ ap found (free_runs_of sma.bounds ws aside (filled_of ready))
+    ∙ ap (option_map pair_of) (found_ahead ws sma.bounds.from at edge)

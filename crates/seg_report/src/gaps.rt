@@ -1,9 +1,8 @@
 //! What the gaps between blocks come to.
 
 ghost use Rattle.std.specs.Prelude.{◌≡◌, ◌<◌, ◌≤◌, ◌++◌, length, OnOk, OnErr};
-ghost use Rattle.seg_words.specs.Gaps.{free_runs};
 ghost use Rattle.seg_words.specs.Kept.{Kept};
-ghost use Rattle.sma_blocks.specs.Live.{live_blocks};
+ghost use Rattle.sma_blocks.specs.Live.{free_runs_in};
 ghost use Rattle.sma_blocks.specs.Ready.{IsReady};
 ghost use Rattle.notation.specs.Appending.{Extends};
 ghost use Rattle.seg_report.specs.Fits.{blocks_in};
@@ -19,16 +18,14 @@ use std::alloc::AllocError;
 pub(crate) fn count_gaps<S: Segment>(sma: &Sma, seg: &mut S, n: u32) -> (u32, u32)
     requires some { 1 ≤ n }
     requires ready { IsReady sma.now (S.words seg.old) (S.aside seg.old) }
-    ensures blocks { result.0 ≡ blocks_in n (free_runs sma.now.from sma.now.to sma.now.piece
-        (live_blocks (S.words seg.old) sma.now.from)) }
-    ensures gaps { result.1 ≡ length (free_runs sma.now.from sma.now.to sma.now.piece
-        (live_blocks (S.words seg.old) sma.now.from)) }
+    ensures blocks { result.0 ≡ blocks_in n (free_runs_in sma.now.bounds (S.words seg.old)) }
+    ensures gaps { result.1 ≡ length (free_runs_in sma.now.bounds (S.words seg.old)) }
     ensures kept { Kept S.WordsIn seg.old seg.new }
 {
-    let (_to, _piece) = (sma.to, sma.piece);
+    let (_to, _piece) = (sma.bounds.to, sma.bounds.piece);
     let mut blocks = 0;
     let mut gaps = 0;
-    let mut at = sma.from;
+    let mut at = sma.bounds.from;
     while let Some((place, size)) = sma.gap_from(seg, at) {
         blocks += size / n;
         gaps += 1;
@@ -44,8 +41,8 @@ pub(crate) fn put_free<S: Segment>(
     out: &mut ByteOut,
 ) -> Result<(), AllocError>
     requires ready { IsReady sma.now (S.words seg.old) (S.aside seg.old) }
-    ensures ok { OnOk result (out.new ≡ out.old ++ free_text (free_runs sma.now.from sma.now.to
-        sma.now.piece (live_blocks (S.words seg.old) sma.now.from))) }
+    ensures ok { OnOk result (out.new ≡ out.old
+        ++ free_text (free_runs_in sma.now.bounds (S.words seg.old))) }
     ensures err { OnErr result (Extends out.old out.new) }
     ensures kept { Kept S.WordsIn seg.old seg.new }
 {
@@ -65,8 +62,8 @@ fn put_power<S: Segment>(
 ) -> Result<(), AllocError>
     requires ready { IsReady sma.now (S.words seg.old) (S.aside seg.old) }
     requires bit { bit < 32 }
-    ensures ok { OnOk result (out.new ≡ out.old ++ power_line (free_runs sma.now.from sma.now.to
-        sma.now.piece (live_blocks (S.words seg.old) sma.now.from)) bit) }
+    ensures ok { OnOk result (out.new ≡ out.old
+        ++ power_line (free_runs_in sma.now.bounds (S.words seg.old)) bit) }
     ensures err { OnErr result (Extends out.old out.new) }
     ensures kept { Kept S.WordsIn seg.old seg.new }
 {
@@ -81,8 +78,8 @@ fn put_power<S: Segment>(
 // How many blocks of each power of two fit.
 fn put_fits<S: Segment>(sma: &Sma, seg: &mut S, out: &mut ByteOut) -> Result<(), AllocError>
     requires ready { IsReady sma.now (S.words seg.old) (S.aside seg.old) }
-    ensures ok { OnOk result (out.new ≡ out.old ++ fits_text (free_runs sma.now.from sma.now.to
-        sma.now.piece (live_blocks (S.words seg.old) sma.now.from))) }
+    ensures ok { OnOk result (out.new ≡ out.old
+        ++ fits_text (free_runs_in sma.now.bounds (S.words seg.old))) }
     ensures err { OnErr result (Extends out.old out.new) }
     ensures kept { Kept S.WordsIn seg.old seg.new }
 {

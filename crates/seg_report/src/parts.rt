@@ -96,10 +96,11 @@ fn put_part<S: Segment>(
     requires stand { Stand S.WordsIn slots.now seg.old }
     requires whole { IsWhole (entries slots.now) }
     requires places { ArePlaces removed.now (entries slots.now).removed }
-    requires here { IsAtPart (S.words seg.old) (entries slots.now) slots.now.sma.from at gap }
+    requires here { IsAtPart (S.words seg.old) (entries slots.now)
+        slots.now.sma.bounds.from at gap }
     requires low { at < length (S.words seg.old) }
     ensures ok { IfOk result (λ r. WalksOn (S.words seg.old) (entries slots.now)
-        slots.now.sma.from at out.old out.new r.0 r.1) }
+        slots.now.sma.bounds.from at out.old out.new r.0 r.1) }
     ensures err { OnErr result (Extends out.old out.new) }
     ensures kept { Kept S.WordsIn seg.old seg.new }
 {

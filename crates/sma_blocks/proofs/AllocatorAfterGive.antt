@@ -13,7 +13,7 @@ use Rattle.sma_blocks.specs.Index.{IsIndexed, IsJoined}
 use Rattle.sma_blocks.specs.Chain.{AreLinked}
 use Rattle.sma_blocks.specs.Ready.{IsReady}
 use Rattle.sma_blocks.specs.Walk.{merged_words, link_before, relinked_words, relinked_head}
-use Rattle.sma_blocks.proofs.Spans.{span_of, filled_of}
+use Rattle.sma_blocks.proofs.FilledWords.{filled_of}
 use Rattle.sma_blocks.proofs.WordsAfterGive.{Around, around_order, give_ready, give_less, give_same, give_apart}
 use Rattle.sma_blocks.proofs.TileLemmas.{Fill-le}
 use Rattle.sma_blocks.proofs.MergedWords.{merged_count}
@@ -57,14 +57,14 @@ part_taken at i blocks taken = elim (cases_Bool (is_free i 1 blocks)) [
 
 -- all that a call of give leaves
 pub record Gives (sma sma' : Sma) (ws ws' : List ℕ) (aside : Aside) (at : ℕ) : Type 0 where
-  pub blocks : live_blocks ws' sma.from ≡ without_block at (live_blocks ws sma.from)
-  pub same : SameBlocks ws ws' sma.from (without_block at (live_blocks ws sma.from))
+  pub blocks : live_blocks ws' sma.bounds.from ≡ without_block at (live_blocks ws sma.bounds.from)
+  pub same : SameBlocks ws ws' sma.bounds.from (without_block at (live_blocks ws sma.bounds.from))
   pub ready : IsReady sma' ws' aside
 
 -- where the last gap before the block begins, a word may be stored after the merge
-merged_one : {sma : Sma} {ws : List ℕ} {aside : Aside} {at size first last : ℕ} (ready : IsReady sma ws aside) (h : Around (span_of sma) ws aside at size first last) (q next : ℕ) → GapAt ws sma.from (q + q) (get_or sma.sizes q 0) → (2 * q + 1 < length (merged_words ws first last next)) × MayStore (merged_words ws first last next) aside.windows (2 * q + 1)
+merged_one : {sma : Sma} {ws : List ℕ} {aside : Aside} {at size first last : ℕ} (ready : IsReady sma ws aside) (h : Around sma.bounds ws aside at size first last) (q next : ℕ) → GapAt ws sma.bounds.from (q + q) (get_or sma.sizes q 0) → (2 * q + 1 < length (merged_words ws first last next)) × MayStore (merged_words ws first last next) aside.windows (2 * q + 1)
 merged_one {sma} {ws} {aside} {at} {size} {first} {last} ready h q next g =
-    let whole = gap_fill ws sma.from (q + q) (get_or sma.sizes q 0) g in
+    let whole = gap_fill ws sma.bounds.from (q + q) (get_or sma.sizes q 0) g in
     let wide = whole.0.enough in
     let end : q + q + get_or sma.sizes q 0 ≤ length ws = Fill-le ws (q + q + get_or sma.sizes q 0) (tiles ws (q + q + get_or sma.sizes q 0)) (length ws) whole.1 in
     let o = around_order h in
@@ -76,19 +76,19 @@ merged_one {sma} {ws} {aside} {at} {size} {first} {last} ready h q next g =
     let again = may_store_after ws aside.windows first (first + 1) ((last - first) + 1) one two in
     (omega (arith, merged_count ws first last next), may_store_after (slice_set ws first ((last - first) + 1)) aside.windows (first + 1) i next again once)
 
-pub merged_inside : {sma : Sma} {ws : List ℕ} {aside : Aside} {at size first last : ℕ} (ready : IsReady sma ws aside) (h : Around (span_of sma) ws aside at size first last) (before : Option ℕ) → IsLastTold sma.sizes (at / 2) before → (next : ℕ) → MatchOption before (Unit {0}) (λ q. 2 * q + 1 < length (merged_words ws first last next))
+pub merged_inside : {sma : Sma} {ws : List ℕ} {aside : Aside} {at size first last : ℕ} (ready : IsReady sma ws aside) (h : Around sma.bounds ws aside at size first last) (before : Option ℕ) → IsLastTold sma.sizes (at / 2) before → (next : ℕ) → MatchOption before (Unit {0}) (λ q. 2 * q + 1 < length (merged_words ws first last next))
 merged_inside ready h None told next = tt
-merged_inside {sma} {ws} ready h (Some q) told next = (merged_one ready h q next (gap_told ws sma.from sma.sizes q ready.formatted ready.indexed told.0.1)).0
+merged_inside {sma} {ws} ready h (Some q) told next = (merged_one ready h q next (gap_told ws sma.bounds.from sma.sizes q ready.formatted ready.indexed told.0.1)).0
 
-pub merged_apart : {sma : Sma} {ws : List ℕ} {aside : Aside} {at size first last : ℕ} (ready : IsReady sma ws aside) (h : Around (span_of sma) ws aside at size first last) (before : Option ℕ) → IsLastTold sma.sizes (at / 2) before → (next : ℕ) → MatchOption before (Unit {0}) (λ q. MayStore (merged_words ws first last next) aside.windows (2 * q + 1))
+pub merged_apart : {sma : Sma} {ws : List ℕ} {aside : Aside} {at size first last : ℕ} (ready : IsReady sma ws aside) (h : Around sma.bounds ws aside at size first last) (before : Option ℕ) → IsLastTold sma.sizes (at / 2) before → (next : ℕ) → MatchOption before (Unit {0}) (λ q. MayStore (merged_words ws first last next) aside.windows (2 * q + 1))
 merged_apart ready h None told next = tt
-merged_apart {sma} {ws} ready h (Some q) told next = (merged_one ready h q next (gap_told ws sma.from sma.sizes q ready.formatted ready.indexed told.0.1)).1
+merged_apart {sma} {ws} ready h (Some q) told next = (merged_one ready h q next (gap_told ws sma.bounds.from sma.sizes q ready.formatted ready.indexed told.0.1)).1
 
-module _ {sma : Sma} {ws : List ℕ} {aside : Aside} {at size first last : ℕ} (ready : IsReady sma ws aside) (h : Around (span_of sma) ws aside at size first last) (before : Option ℕ) (told : IsLastTold sma.sizes (at / 2) before) (next : ℕ) (new : List ℕ) (joined : IsJoined sma.sizes new first (at + size) last) where
+module _ {sma : Sma} {ws : List ℕ} {aside : Aside} {at size first last : ℕ} (ready : IsReady sma ws aside) (h : Around sma.bounds ws aside at size first last) (before : Option ℕ) (told : IsLastTold sma.sizes (at / 2) before) (next : ℕ) (new : List ℕ) (joined : IsJoined sma.sizes new first (at + size) last) where
   abbrev mid : List ℕ
   mid = merged_words ws first last next
 
-  mid_indexed : IsIndexed mid sma.from new
+  mid_indexed : IsIndexed mid sma.bounds.from new
   mid_indexed = give_indexed h sma.sizes ready.indexed next new joined
 
   at_even : first ≡ at → at % 2 ≡ 0
@@ -112,8 +112,8 @@ module _ {sma : Sma} {ws : List ℕ} {aside : Aside} {at size first last : ℕ} 
   ]
 
   pub gives : (sma' : Sma) (ws' : List ℕ) → (at + size < last → next ≡ slice_index ws ((at + size) + 1)) → (last ≤ at + size → first < at → next ≡ slice_index ws (first + 1)) → (last ≤ at + size → at ≤ first → next ≡ link_before ws sma.head before)
-      → sma'.from ≡ sma.from → sma'.to ≡ sma.to → sma'.piece ≡ sma.piece → sma'.free ≡ sma.free + size → sma'.sizes ≡ new → Ends sma ws before at first last next sma'.head ws' → Gives sma sma' ws ws' aside at
-  gives sma' ws' after touching alone from to piece free sizes ends =
+      → sma'.bounds ≡ sma.bounds → sma'.free ≡ sma.free + size → sma'.sizes ≡ new → Ends sma ws before at first last next sma'.head ws' → Gives sma sma' ws ws' aside at
+  gives sma' ws' after touching alone bounds free sizes ends =
       let p = parts h sma.sizes ready.indexed next sma.head ready.linked in
       let is = is_next p after touching alone in
       let counted = (give_counted h sma.sizes ready.indexed next sma.free ready.counted).0 in
@@ -122,24 +122,24 @@ module _ {sma : Sma} {ws : List ℕ} {aside : Aside} {at size first last : ℕ} 
         | inl same ↦
             let e = ends.alone same in
             let end = relinked_words mid before at in
-            let moved = relinked (span_of sma) mid aside new (at / 2) at before (give_ready h next) mid_indexed (told_new same) in
-            let indexed = indexed_along mid end sma.from new moved.count moved.same mid_indexed in
+            let moved = relinked sma.bounds mid aside new (at / 2) at before (give_ready h next) mid_indexed (told_new same) in
+            let indexed = indexed_along mid end sma.bounds.from new moved.count moved.same mid_indexed in
             let linked = linked_apart h sma.sizes ready.indexed next sma.head p before is same told in
-            let made : IsReady (record { from = sma.from; to = sma.to; piece = sma.piece; head = relinked_head sma.head before at; free = sma.free + size; sizes = new }) end aside = ready_by (record { from = sma.from; to = sma.to; piece = sma.piece; head = relinked_head sma.head before at; free = sma.free + size; sizes = new }) end aside ready.short ready.even moved.filled indexed (subst (λ ps. AreLinked end (relinked_head sma.head before at) ps 0) (sym moved.same) linked) (counted ∙ ap gap_words (sym moved.same)) in
+            let made : IsReady (record { bounds = sma.bounds; head = relinked_head sma.head before at; free = sma.free + size; sizes = new }) end aside = ready_by (record { bounds = sma.bounds; head = relinked_head sma.head before at; free = sma.free + size; sizes = new }) end aside ready.short ready.even moved.filled indexed (subst (λ ps. AreLinked end (relinked_head sma.head before at) ps 0) (sym moved.same) linked) (counted ∙ ap gap_words (sym moved.same)) in
             let done : Gives sma sma' ws end aside at = record {
               blocks = ap lives moved.same ∙ give_less h next;
-              same = relinked_same ws mid sma.from sma.sizes (at / 2) at before (without_block at (live_blocks ws sma.from)) ready.formatted ready.indexed told (λ i taken. part_taken at i (live_blocks ws sma.from) taken) (give_same h next);
-              ready = same_sma sma' end aside sma.from sma.to sma.piece (relinked_head sma.head before at) (sma.free + size) new from to piece e.1 free sizes made;
+              same = relinked_same ws mid sma.bounds.from sma.sizes (at / 2) at before (without_block at (live_blocks ws sma.bounds.from)) ready.formatted ready.indexed told (λ i taken. part_taken at i (live_blocks ws sma.bounds.from) taken) (give_same h next);
+              ready = same_sma sma' end aside sma.bounds (relinked_head sma.head before at) (sma.free + size) new bounds e.1 free sizes made;
             } in
             subst (λ (xs : List ℕ). Gives sma sma' ws xs aside at) (sym e.0) done
         | inr other ↦
             let e = ends.touching other in
             let linked = linked_touching h sma.sizes ready.indexed next sma.head p is (less first at o.0 other) in
-            let made : IsReady (record { from = sma.from; to = sma.to; piece = sma.piece; head = sma.head; free = sma.free + size; sizes = new }) mid aside = ready_by (record { from = sma.from; to = sma.to; piece = sma.piece; head = sma.head; free = sma.free + size; sizes = new }) mid aside ready.short ready.even (give_ready h next) mid_indexed linked counted in
+            let made : IsReady (record { bounds = sma.bounds; head = sma.head; free = sma.free + size; sizes = new }) mid aside = ready_by (record { bounds = sma.bounds; head = sma.head; free = sma.free + size; sizes = new }) mid aside ready.short ready.even (give_ready h next) mid_indexed linked counted in
             let done : Gives sma sma' ws mid aside at = record {
               blocks = give_less h next;
               same = give_same h next;
-              ready = same_sma sma' mid aside sma.from sma.to sma.piece sma.head (sma.free + size) new from to piece e.1 free sizes made;
+              ready = same_sma sma' mid aside sma.bounds sma.head (sma.free + size) new bounds e.1 free sizes made;
             } in
             subst (λ (xs : List ℕ). Gives sma sma' ws xs aside at) (sym e.0) done
       ]

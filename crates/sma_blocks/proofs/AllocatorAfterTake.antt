@@ -5,6 +5,7 @@ use Rattle.max_tree.specs.Halves.{other_half, MayStand}
 use Rattle.seg_words.specs.Windows.{Aside}
 use Rattle.seg_words.specs.Blocks.{MayStore}
 use Rattle.seg_words.specs.Gaps.{fits}
+use Rattle.sma_blocks.specs.declared.bounds.Bounds.{Bounds}
 use Rattle.sma_blocks.specs.declared.sma.Sma.{Sma}
 use Rattle.sma_blocks.specs.declared.sma.near.Fit.{Fit}
 use Rattle.sma_blocks.specs.Tiles.{tiles}
@@ -14,7 +15,7 @@ use Rattle.sma_blocks.specs.Chain.{AreLinked}
 use Rattle.sma_blocks.specs.Ready.{IsReady}
 use Rattle.sma_blocks.specs.Fits.{IsFit}
 use Rattle.sma_blocks.specs.Walk.{cut_words, relinked_words, relinked_head}
-use Rattle.sma_blocks.proofs.Spans.{span_of, filled_of}
+use Rattle.sma_blocks.proofs.FilledWords.{filled_of}
 use Rattle.sma_blocks.proofs.FitPlaces.{FitParts}
 use Rattle.sma_blocks.proofs.WordsAfterTake.{Room, take_ready, take_more, take_same, cut_first}
 use Rattle.sma_blocks.proofs.FirstFit.{take_found}
@@ -27,19 +28,17 @@ may_store_seen ws ws' one two i words aside h =
     subst (λ (a : Aside). MayStore ws' a.windows i) (sym aside) (subst (λ (xs : List ℕ). MayStore xs one.windows i) (sym words) h)
 
 -- an allocator with these fields
-pub same_sma : (s' : Sma) (words : List ℕ) (aside : Aside) (a b p c d : ℕ) (e : List ℕ) → s'.from ≡ a → s'.to ≡ b → s'.piece ≡ p → s'.head ≡ c → s'.free ≡ d → s'.sizes ≡ e → IsReady (record { from = a; to = b; piece = p; head = c; free = d; sizes = e }) words aside → IsReady s' words aside
-same_sma s' words aside a b p c d e ea eb ep ec ed ee h =
-    let h1 = subst (λ (x : ℕ). IsReady (record { from = x; to = b; piece = p; head = c; free = d; sizes = e }) words aside) (sym ea) h in
-    let h2 = subst (λ (x : ℕ). IsReady (record { from = s'.from; to = x; piece = p; head = c; free = d; sizes = e }) words aside) (sym eb) h1 in
-    let hp = subst (λ (x : ℕ). IsReady (record { from = s'.from; to = s'.to; piece = x; head = c; free = d; sizes = e }) words aside) (sym ep) h2 in
-    let h3 = subst (λ (x : ℕ). IsReady (record { from = s'.from; to = s'.to; piece = s'.piece; head = x; free = d; sizes = e }) words aside) (sym ec) hp in
-    let h4 = subst (λ (x : ℕ). IsReady (record { from = s'.from; to = s'.to; piece = s'.piece; head = s'.head; free = x; sizes = e }) words aside) (sym ed) h3 in
-    subst (λ (x : List ℕ). IsReady (record { from = s'.from; to = s'.to; piece = s'.piece; head = s'.head; free = s'.free; sizes = x }) words aside) (sym ee) h4
+pub same_sma : (s' : Sma) (words : List ℕ) (aside : Aside) (b : Bounds) (c d : ℕ) (e : List ℕ) → s'.bounds ≡ b → s'.head ≡ c → s'.free ≡ d → s'.sizes ≡ e → IsReady (record { bounds = b; head = c; free = d; sizes = e }) words aside → IsReady s' words aside
+same_sma s' words aside b c d e eb ec ed ee h =
+    let one = subst (λ (x : Bounds). IsReady (record { bounds = x; head = c; free = d; sizes = e }) words aside) (sym eb) h in
+    let two = subst (λ (x : ℕ). IsReady (record { bounds = s'.bounds; head = x; free = d; sizes = e }) words aside) (sym ec) one in
+    let three = subst (λ (x : ℕ). IsReady (record { bounds = s'.bounds; head = s'.head; free = x; sizes = e }) words aside) (sym ed) two in
+    subst (λ (x : List ℕ). IsReady (record { bounds = s'.bounds; head = s'.head; free = s'.free; sizes = x }) words aside) (sym ee) three
 
 -- what is known where the index found a number
 pub record Seen (sma : Sma) (ws : List ℕ) (aside : Aside) (n index size : ℕ) : Type 0 where
-  pub room : Room (span_of sma) ws aside (2 * index) size n
-  pub none : (b : ℕ) → b < 2 * index → fits sma.from sma.to sma.piece n (live_blocks ws sma.from) b ≡ false
+  pub room : Room sma.bounds ws aside (2 * index) size n
+  pub none : (b : ℕ) → b < 2 * index → fits sma.bounds.from sma.bounds.to sma.bounds.piece n (live_blocks ws sma.bounds.from) b ≡ false
   pub inside_is : 2 * index + size ≤ length ws
   pub even : size % 2 ≡ 0
   pub there : index < length sma.sizes
@@ -52,8 +51,8 @@ pub record Seen (sma : Sma) (ws : List ℕ) (aside : Aside) (n index size : ℕ)
 pub seen : FitParts → (sma : Sma) (ws : List ℕ) (aside : Aside) (n : ℕ) (fit : Fit) → IsReady sma ws aside → IsFit sma.sizes n fit → n % 2 ≡ 0 → 2 ≤ n → Seen sma ws aside n fit.index fit.size
 seen parts sma ws aside n fit ready is even some =
     let twice : 2 * fit.index ≡ fit.index + fit.index = omega arith in
-    let there = take_found parts (span_of sma) ws aside sma.sizes n fit.index (2 * fit.index) (filled_of ready) ready.indexed is.first even some twice in
-    let room : Room (span_of sma) ws aside (2 * fit.index) fit.size n = subst (λ (x : ℕ). Room (span_of sma) ws aside (2 * fit.index) x n) (sym is.size) there.0 in
+    let there = take_found parts sma.bounds ws aside sma.sizes n fit.index (2 * fit.index) (filled_of ready) ready.indexed is.first even some twice in
+    let room : Room sma.bounds ws aside (2 * fit.index) fit.size n = subst (λ (x : ℕ). Room sma.bounds ws aside (2 * fit.index) x n) (sym is.size) there.0 in
     let enough = room.enough in
     record {
       room = room;
@@ -95,23 +94,23 @@ module _ {sma : Sma} {ws : List ℕ} {aside : Aside} {n index size : ℕ} (ready
   abbrev mid : List ℕ
   mid = cut_words ws (2 * index) size n
 
-  mid_indexed : IsIndexed mid sma.from new
+  mid_indexed : IsIndexed mid sma.bounds.from new
   mid_indexed = take_indexed s.room sma.sizes index ready.indexed twice new short
 
   pub relink_inside : MatchOption before (Unit {0}) (λ q. 2 * q + 1 < length mid)
-  relink_inside = link_inside (span_of sma) mid aside new index before (take_ready s.room) mid_indexed (last_short sma.sizes new index size n before short last)
+  relink_inside = link_inside sma.bounds mid aside new index before (take_ready s.room) mid_indexed (last_short sma.sizes new index size n before short last)
 
   pub relink_apart : MatchOption before (Unit {0}) (λ q. MayStore mid aside.windows (2 * q + 1))
-  relink_apart = link_apart (span_of sma) mid aside new index before (take_ready s.room) mid_indexed (last_short sma.sizes new index size n before short last)
+  relink_apart = link_apart sma.bounds mid aside new index before (take_ready s.room) mid_indexed (last_short sma.sizes new index size n before short last)
 
   module _ (v : ℕ) where
     abbrev after : List ℕ
     after = relinked_words mid before v
 
-    moved : Relinked (span_of sma) mid after aside
-    moved = relinked (span_of sma) mid aside new index v before (take_ready s.room) mid_indexed (last_short sma.sizes new index size n before short last)
+    moved : Relinked sma.bounds mid after aside
+    moved = relinked sma.bounds mid aside new index v before (take_ready s.room) mid_indexed (last_short sma.sizes new index size n before short last)
 
-    pub done_blocks : live_blocks after sma.from ≡ with_block (record { place = 2 * index; size = n }) (live_blocks ws sma.from)
+    pub done_blocks : live_blocks after sma.bounds.from ≡ with_block (record { place = 2 * index; size = n }) (live_blocks ws sma.bounds.from)
     done_blocks = ap lives moved.same ∙ take_more s.room
 
     pub done_word : slice_index after (2 * index) ≡ n
@@ -121,13 +120,13 @@ module _ {sma : Sma} {ws : List ℕ} {aside : Aside} {n index size : ℕ} (ready
         let enough = s.room.enough in
         relinked_at mid index v (2 * index) before sma.sizes last (omega arith) ∙ cut_first ws (2 * index) size n (omega arith)
 
-    pub done_same : SameBlocks ws after sma.from (live_blocks ws sma.from)
-    done_same = relinked_same ws mid sma.from sma.sizes index v before (live_blocks ws sma.from) ready.formatted ready.indexed last (λ i t. t) (take_same s.room)
+    pub done_same : SameBlocks ws after sma.bounds.from (live_blocks ws sma.bounds.from)
+    done_same = relinked_same ws mid sma.bounds.from sma.sizes index v before (live_blocks ws sma.bounds.from) ready.formatted ready.indexed last (λ i t. t) (take_same s.room)
 
-    pub done_ready : (sma' : Sma) → sma'.from ≡ sma.from → sma'.to ≡ sma.to → sma'.piece ≡ sma.piece → sma'.head ≡ relinked_head sma.head before v → sma'.free ≡ sma.free - n → sma'.sizes ≡ new → (n < size → v ≡ 2 * index + n) → (size ≤ n → v ≡ slice_index ws (2 * index + 1)) → IsReady sma' after aside
-    done_ready sma' from to piece head free sizes cut whole =
+    pub done_ready : (sma' : Sma) → sma'.bounds ≡ sma.bounds → sma'.head ≡ relinked_head sma.head before v → sma'.free ≡ sma.free - n → sma'.sizes ≡ new → (n < size → v ≡ 2 * index + n) → (size ≤ n → v ≡ slice_index ws (2 * index + 1)) → IsReady sma' after aside
+    done_ready sma' bounds head free sizes cut whole =
         let linked = take_linked s.room sma.sizes index ready.indexed twice sma.head ready.linked before v last cut whole in
         let counted = (take_counted s.room sma.sizes index ready.indexed twice sma.free ready.counted).1 in
-        let indexed : IsIndexed after sma.from new = indexed_along mid after sma.from new moved.count moved.same mid_indexed in
-        let made : IsReady (record { from = sma.from; to = sma.to; piece = sma.piece; head = relinked_head sma.head before v; free = sma.free - n; sizes = new }) after aside = ready_by (record { from = sma.from; to = sma.to; piece = sma.piece; head = relinked_head sma.head before v; free = sma.free - n; sizes = new }) after aside ready.short ready.even moved.filled indexed (subst (λ ps. AreLinked after (relinked_head sma.head before v) ps 0) (sym moved.same) linked) (counted ∙ ap gap_words (sym moved.same)) in
-        same_sma sma' after aside sma.from sma.to sma.piece (relinked_head sma.head before v) (sma.free - n) new from to piece head free sizes made
+        let indexed : IsIndexed after sma.bounds.from new = indexed_along mid after sma.bounds.from new moved.count moved.same mid_indexed in
+        let made : IsReady (record { bounds = sma.bounds; head = relinked_head sma.head before v; free = sma.free - n; sizes = new }) after aside = ready_by (record { bounds = sma.bounds; head = relinked_head sma.head before v; free = sma.free - n; sizes = new }) after aside ready.short ready.even moved.filled indexed (subst (λ ps. AreLinked after (relinked_head sma.head before v) ps 0) (sym moved.same) linked) (counted ∙ ap gap_words (sym moved.same)) in
+        same_sma sma' after aside sma.bounds (relinked_head sma.head before v) (sma.free - n) new bounds head free sizes made

@@ -9,7 +9,8 @@ use Rattle.std.proofs.lemmas.List.Quantifiers.{position-Some}
 use Rattle.seg_words.specs.Gaps.{fits, first_fit}
 use Rattle.seg_words.specs.Windows.{Aside}
 use Rattle.seg_words.specs.declared.gaps.Extent.{Extent}
-use Rattle.sma_blocks.proofs.Spans.{Span, IsFilled}
+use Rattle.sma_blocks.specs.declared.bounds.Bounds.{Bounds}
+use Rattle.sma_blocks.proofs.FilledWords.{IsFilled}
 use Rattle.sma_blocks.specs.Tiles.{Tile, tiles, Fill, IsFormatted}
 use Rattle.sma_blocks.specs.Live.{live_blocks}
 use Rattle.sma_blocks.specs.Walk.{IsEdge}
@@ -134,28 +135,28 @@ none_at p xs n nowhere some small k = elim (cases_lt k (length xs)) [
 ]
 
 -- what is known of an index where a number is found
-pub take_found : FitParts → (span : Span) (ws : List ℕ) (aside : Aside) (numbers : List ℕ) (n index at : ℕ) → IsFilled span ws aside → IsIndexed ws span.from numbers → position (λ value. nat_le n value) numbers ≡ Some index → n % 2 ≡ 0 → 2 ≤ n → at ≡ index + index → Room span ws aside at (get_or numbers index 0) n × ((b : ℕ) → b < at → fits span.from span.to span.piece n (live_blocks ws span.from) b ≡ false)
-take_found parts span ws aside numbers n index at ready indexed found even some twice =
+pub take_found : FitParts → (bounds : Bounds) (ws : List ℕ) (aside : Aside) (numbers : List ℕ) (n index at : ℕ) → IsFilled bounds ws aside → IsIndexed ws bounds.from numbers → position (λ value. nat_le n value) numbers ≡ Some index → n % 2 ≡ 0 → 2 ≤ n → at ≡ index + index → Room bounds ws aside at (get_or numbers index 0) n × ((b : ℕ) → b < at → fits bounds.from bounds.to bounds.piece n (live_blocks ws bounds.from) b ≡ false)
+take_found parts bounds ws aside numbers n index at ready indexed found even some twice =
     let first = position-Some (λ value. nat_le n value) numbers index 0 found in
     let enough : n ≤ get_or numbers index 0 = leb-true n _ first.1 in
-    let size : size_at (tiles ws span.from) at ≡ get_or numbers index 0 = ap (λ (q : ℕ). size_at (tiles ws span.from) q) twice ∙ sym (indexed.told index) in
-    let small : (q : ℕ) → q % 2 ≡ 0 → q < at → size_at (tiles ws span.from) q < n = λ q e lt.
+    let size : size_at (tiles ws bounds.from) at ≡ get_or numbers index 0 = ap (λ (q : ℕ). size_at (tiles ws bounds.from) q) twice ∙ sym (indexed.told index) in
+    let small : (q : ℕ) → q % 2 ≡ 0 → q < at → size_at (tiles ws bounds.from) q < n = λ q e lt.
     let half : q / 2 + q / 2 ≡ q = omega arith in
-    let same : get_or numbers (q / 2) 0 ≡ size_at (tiles ws span.from) q = indexed.told (q / 2) ∙ ap (λ (x : ℕ). size_at (tiles ws span.from) x) half in
+    let same : get_or numbers (q / 2) 0 ≡ size_at (tiles ws bounds.from) q = indexed.told (q / 2) ∙ ap (λ (x : ℕ). size_at (tiles ws bounds.from) x) half in
     omega (arith, leb-false n _ (first.2 (q / 2) (omega arith))) in
     let full = ready.formatted.full in
-    let there = find_gap parts ws span.from span.to span.piece n ready.formatted ready.end (omega arith) at (get_or numbers index 0) (tiles ws span.from) span.from (edge_start ws span.from full) refl (λ b lt. below_first parts span.from span.to span.piece n b _ lt) small size enough in
+    let there = find_gap parts ws bounds.from bounds.to bounds.piece n ready.formatted ready.end (omega arith) at (get_or numbers index 0) (tiles ws bounds.from) bounds.from (edge_start ws bounds.from full) refl (λ b lt. below_first parts bounds.from bounds.to bounds.piece n b _ lt) small size enough in
     (record { ready = ready; edge = there.edge; is = there.is; even = even; some = some; enough = enough }, there.none)
 
 -- where no number is large enough
-pub take_none : FitParts → FitNone → (span : Span) (ws : List ℕ) (aside : Aside) (numbers : List ℕ) (n : ℕ) → IsFilled span ws aside → IsIndexed ws span.from numbers → position (λ value. nat_le n value) numbers ≡ None → 2 ≤ n → first_fit span.from span.to span.piece n (live_blocks ws span.from) ≡ None
-take_none parts none span ws aside numbers n ready indexed nowhere some =
-    let small : (q : ℕ) → q % 2 ≡ 0 → size_at (tiles ws span.from) q < n = λ q e.
+pub take_none : FitParts → FitNone → (bounds : Bounds) (ws : List ℕ) (aside : Aside) (numbers : List ℕ) (n : ℕ) → IsFilled bounds ws aside → IsIndexed ws bounds.from numbers → position (λ value. nat_le n value) numbers ≡ None → 2 ≤ n → first_fit bounds.from bounds.to bounds.piece n (live_blocks ws bounds.from) ≡ None
+take_none parts none bounds ws aside numbers n ready indexed nowhere some =
+    let small : (q : ℕ) → q % 2 ≡ 0 → size_at (tiles ws bounds.from) q < n = λ q e.
     let half : q / 2 + q / 2 ≡ q = omega arith in
-    let same : get_or numbers (q / 2) 0 ≡ size_at (tiles ws span.from) q = indexed.told (q / 2) ∙ ap (λ (x : ℕ). size_at (tiles ws span.from) x) half in
+    let same : get_or numbers (q / 2) 0 ≡ size_at (tiles ws bounds.from) q = indexed.told (q / 2) ∙ ap (λ (x : ℕ). size_at (tiles ws bounds.from) x) half in
     omega (arith, none_at (λ value. nat_le n value) numbers n nowhere some (λ v e. leb-false n v e) (q / 2)) in
-    none_fits parts none span.from span.to span.piece n span.to (live_blocks ws span.from) (omega arith) (omega arith)
-    (find_none parts ws span.from span.to span.piece n ready.formatted ready.end (omega arith) (tiles ws span.from) span.from (edge_start ws span.from ready.formatted.full) refl (λ b lt. below_first parts span.from span.to span.piece n b _ lt) small)
+    none_fits parts none bounds.from bounds.to bounds.piece n bounds.to (live_blocks ws bounds.from) (omega arith) (omega arith)
+    (find_none parts ws bounds.from bounds.to bounds.piece n ready.formatted ready.end (omega arith) (tiles ws bounds.from) bounds.from (edge_start ws bounds.from ready.formatted.full) refl (λ b lt. below_first parts bounds.from bounds.to bounds.piece n b _ lt) small)
 
 -- a gap at a place, and the tiles round it
 pub record GapAt (ws : List ℕ) (from at size : ℕ) : Type 0 where

@@ -10,7 +10,7 @@ use Rattle.sma_blocks.specs.Tiles.{tiles}
 use Rattle.sma_blocks.specs.Ready.{IsReady}
 use Rattle.sma_blocks.specs.Walk.{link_before}
 use Rattle.sma_blocks.specs.Fits.{IsFit}
-use Rattle.sma_blocks.proofs.Spans.{span_of, filled_of}
+use Rattle.sma_blocks.proofs.FilledWords.{filled_of}
 use Rattle.sma_blocks.proofs.GapSizes.{gap_words-le}
 use Rattle.sma_blocks.proofs.LastGapLink.{IsLastTold, link_inside, link_told}
 use Rattle.sma_blocks.proofs.NextGap.{ask_small, ask_next}
@@ -41,10 +41,10 @@ module _ {sma : Sma} {ws : List ℕ} {aside : Aside} (ready : IsReady sma ws asi
   told = passed_told sma.sizes n before passed
 
   pub near_inside : MatchOption before (Unit {0}) (λ q. 2 * q + 1 < length ws)
-  near_inside = link_inside (span_of sma) ws aside sma.sizes count before (filled_of ready) ready.indexed told
+  near_inside = link_inside sma.bounds ws aside sma.sizes count before (filled_of ready) ready.indexed told
 
   pub near_told : MatchOption before (Unit {0}) (λ q. IsTold aside.windows (2 * q + 1))
-  near_told = link_told (span_of sma) ws aside sma.sizes count before (filled_of ready) ready.indexed told
+  near_told = link_told sma.bounds ws aside sma.sizes count before (filled_of ready) ready.indexed told
 
   module _ (v : ℕ) (link : v ≡ link_before ws sma.head before) where
     half : count ≡ (2 * count) / 2 + (2 * count) % 2
@@ -52,7 +52,7 @@ module _ {sma : Sma} {ws : List ℕ} {aside : Aside} (ready : IsReady sma ws asi
 
     pub near_index : 2 ≤ n → n ≤ sma.free → v / 2 < length sma.sizes
     near_index some enough =
-        let words = gap_words-le ws sma.from (tiles ws sma.from) (length ws) ready.formatted.full in
+        let words = gap_words-le ws sma.bounds.from (tiles ws sma.bounds.from) (length ws) ready.formatted.full in
         (ask_small ready (2 * count) count v before half told link (omega (arith, ready.counted))).1
 
     module _ (size : ℕ) (is : size ≡ get_or sma.sizes (v / 2) 0) (there : size ≢ 0) where

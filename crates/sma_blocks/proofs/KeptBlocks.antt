@@ -18,7 +18,7 @@ use Rattle.sma_blocks.proofs.AllocatorAfterTake.{same_sma}
 use Rattle.sma_blocks.specs.Chain.{AreLinked}
 use Rattle.sma_blocks.specs.Ready.{NameLive, AreBlocks, IsReady}
 use Rattle.sma_blocks.specs.Order.{lives_stand, ready_blocks}
-use Rattle.sma_blocks.proofs.Spans.{IsFilled, span_of}
+use Rattle.sma_blocks.proofs.FilledWords.{IsFilled}
 use Rattle.sma_blocks.proofs.TileLemmas.{tiles-end, tiles-filled, edge_start}
 use Rattle.sma_blocks.proofs.LiveBlocks.{tile_extent, lives_between, meets_apart}
 use Rattle.seg_words.specs.Members.{Contains-cases, Contains-first, Contains-later, Contains-filter, Contains-kept, filter_alike, filter_none}
@@ -198,53 +198,53 @@ pub record Spread (places : List ℕ) (blocks : List Extent) (i end : ℕ) : Typ
   pub upper : (k : ℕ) → i ≤ k → k < length places → end ≤ get_or places k 0
 
 -- before the loop
-pub laid_start : (sma : Sma) (ws : List ℕ) (aside : Aside) (places sizes : List ℕ) → IsReady sma ws aside → ((at : ℕ) → is_named aside.windows at ≡ true → has at places ≡ true) → ((i : ℕ) → get_or sizes i 0 ≡ 0) → Laid sma.piece ws ws aside places sma.from sma.to sizes 0 0 true
+pub laid_start : (sma : Sma) (ws : List ℕ) (aside : Aside) (places sizes : List ℕ) → IsReady sma ws aside → ((at : ℕ) → is_named aside.windows at ≡ true → has at places ≡ true) → ((i : ℕ) → get_or sizes i 0 ≡ 0) → Laid sma.bounds.piece ws ws aside places sma.bounds.from sma.bounds.to sizes 0 0 true
 laid_start sma ws aside places sizes ready named zeros =
-    let none : tiles ws sma.to ≡ [] = tiles-end ws sma.to (omega (arith, ready.end)) in
+    let none : tiles ws sma.bounds.to ≡ [] = tiles-end ws sma.bounds.to (omega (arith, ready.end)) in
     record {
       count = refl;
       before = λ j low. refl;
       inside = λ j taken. refl;
       names = λ at is.
           let held = ready.windows at is in
-          record { size = held.size; live = Contains-kept (λ (b : Extent). has b.place places) (live_blocks ws sma.from) (record { place = at; size = held.size }) held.live (named at is); inside = held.inside };
-      blocks = ap lives none ∙ sym (filter_none (λ (b : Extent). has b.place places && leb sma.to b.place) (live_blocks ws sma.from) (λ e c.
-          let b = lives_between ws sma.from (tiles ws sma.from) (length ws) e ready.formatted.full c in
-          and_right (has e.place places) (leb sma.to e.place) (lt-leb sma.to e.place (omega (arith, b.1, b.2, ready.end)))));
-      laid = laid_nothing sma.piece ws sma.to sizes ready.end zeros;
+          record { size = held.size; live = Contains-kept (λ (b : Extent). has b.place places) (live_blocks ws sma.bounds.from) (record { place = at; size = held.size }) held.live (named at is); inside = held.inside };
+      blocks = ap lives none ∙ sym (filter_none (λ (b : Extent). has b.place places && leb sma.bounds.to b.place) (live_blocks ws sma.bounds.from) (λ e c.
+          let b = lives_between ws sma.bounds.from (tiles ws sma.bounds.from) (length ws) e ready.formatted.full c in
+          and_right (has e.place places) (leb sma.bounds.to e.place) (lt-leb sma.bounds.to e.place (omega (arith, b.1, b.2, ready.end)))));
+      laid = laid_nothing sma.bounds.piece ws sma.bounds.to sizes ready.end zeros;
     }
 
-pub spread_start : (sma : Sma) (ws : List ℕ) (aside : Aside) (places : List ℕ) → IsReady sma ws aside → Spread places (live_blocks ws sma.from) (length places) sma.to
+pub spread_start : (sma : Sma) (ws : List ℕ) (aside : Aside) (places : List ℕ) → IsReady sma ws aside → Spread places (live_blocks ws sma.bounds.from) (length places) sma.bounds.to
 spread_start sma ws aside places ready = record {
-  lower = λ k size low c. (let b = lives_between ws sma.from (tiles ws sma.from) (length ws) (record { place = get_or places k 0; size = size }) ready.formatted.full c in omega (arith, b.1, ready.end));
+  lower = λ k size low c. (let b = lives_between ws sma.bounds.from (tiles ws sma.bounds.from) (length ws) (record { place = get_or places k 0; size = size }) ready.formatted.full c in omega (arith, b.1, ready.end));
   upper = λ k high inside. absurd (omega arith);
 }
 
 -- one block further
 pub record Next (sma : Sma) (ws : List ℕ) (places : List ℕ) (i end at : ℕ) : Type 0 where
   pub size : ℕ
-  pub live : Contains (live_blocks ws sma.from) (record { place = at; size = size })
+  pub live : Contains (live_blocks ws sma.bounds.from) (record { place = at; size = size })
   pub word : slice_index ws at ≡ size
   pub even_at : at % 2 ≡ 0
   pub even_size : size % 2 ≡ 0
-  pub whole : is_whole sma.piece at size ≡ true
-  pub low : sma.from ≤ at
+  pub whole : is_whole sma.bounds.piece at size ≡ true
+  pub low : sma.bounds.from ≤ at
   pub wide : 2 ≤ size
   pub fits : at + size ≤ end
   pub kept : has at places ≡ true
-  pub between : Between (kept_blocks places (live_blocks ws sma.from)) (at + size) end
-  pub spread : Spread places (live_blocks ws sma.from) i at
+  pub between : Between (kept_blocks places (live_blocks ws sma.bounds.from)) (at + size) end
+  pub spread : Spread places (live_blocks ws sma.bounds.from) i at
 
-pub next_block : (sma : Sma) (ws : List ℕ) (aside : Aside) (places : List ℕ) (i end at : ℕ) → IsReady sma ws aside → ((k : ℕ) → k < length places → IsLive (live_blocks ws sma.from) (get_or places k 0)) → ((k : ℕ) → k + 1 < length places → get_or places k 0 < get_or places (k + 1) 0) → i < length places → at ≡ get_or places i 0 → Spread places (live_blocks ws sma.from) (i + 1) end → Next sma ws places i end at
+pub next_block : (sma : Sma) (ws : List ℕ) (aside : Aside) (places : List ℕ) (i end at : ℕ) → IsReady sma ws aside → ((k : ℕ) → k < length places → IsLive (live_blocks ws sma.bounds.from) (get_or places k 0)) → ((k : ℕ) → k + 1 < length places → get_or places k 0 < get_or places (k + 1) 0) → i < length places → at ≡ get_or places i 0 → Spread places (live_blocks ws sma.bounds.from) (i + 1) end → Next sma ws places i end at
 unfolding Between
 next_block sma ws aside places i end at ready lives_all up inside is spread =
     let there = lives_all i inside in
     let size : ℕ = there.0 in
-    let live : Contains (live_blocks ws sma.from) (record { place = at; size = size }) = subst (λ (x : ℕ). Contains (live_blocks ws sma.from) (record { place = x; size = size })) (sym is) there.1 in
+    let live : Contains (live_blocks ws sma.bounds.from) (record { place = at; size = size }) = subst (λ (x : ℕ). Contains (live_blocks ws sma.bounds.from) (record { place = x; size = size })) (sym is) there.1 in
     let full = ready.formatted.full in
-    let b = lives_between ws sma.from (tiles ws sma.from) (length ws) (record { place = at; size = size }) full live in
-    let e = lives_even ws sma.from (tiles ws sma.from) (length ws) (record { place = at; size = size }) full ready.formatted.even live in
-    let o = blocks_low ws sma.from (live_blocks ws sma.from) sma.to (record { place = at; size = size }) (ready_blocks ready) live in
+    let b = lives_between ws sma.bounds.from (tiles ws sma.bounds.from) (length ws) (record { place = at; size = size }) full live in
+    let e = lives_even ws sma.bounds.from (tiles ws sma.bounds.from) (length ws) (record { place = at; size = size }) full ready.formatted.even live in
+    let o = blocks_low ws sma.bounds.from (live_blocks ws sma.bounds.from) sma.bounds.to (record { place = at; size = size }) (ready_blocks ready) live in
     let fits : at + size ≤ end = omega (arith, spread.lower i size (omega arith) there.1) in
     record {
       size = size;
@@ -252,15 +252,15 @@ next_block sma ws aside places i end at ready lives_all up inside is spread =
       word = o.2;
       even_at = e.0;
       even_size = e.1;
-      whole = lives_whole sma.piece (tiles ws sma.from) (record { place = at; size = size }) ready.formatted.whole live;
+      whole = lives_whole sma.bounds.piece (tiles ws sma.bounds.from) (record { place = at; size = size }) ready.formatted.whole live;
       low = b.0;
       wide = b.2;
       fits = fits;
       kept = ap (λ (x : ℕ). has x places) is ∙ index_has places i inside;
       between = λ f c.
-          let f_live = Contains-filter (λ (b : Extent). has b.place places) (live_blocks ws sma.from) f c in
+          let f_live = Contains-filter (λ (b : Extent). has b.place places) (live_blocks ws sma.bounds.from) f c in
           let k = has_index f.place places f_live.1 in
-          let f_bounds = lives_between ws sma.from (tiles ws sma.from) (length ws) f full f_live.0 in
+          let f_bounds = lives_between ws sma.bounds.from (tiles ws sma.bounds.from) (length ws) f full f_live.0 in
           elim (cases_lt i k.0) [
             | inl past ↦ inr (omega (arith, spread.upper k.0 (omega arith) k.1, k.2))
             | inr early ↦
@@ -268,7 +268,7 @@ next_block sma ws aside places i end at ready lives_all up inside is spread =
                   | inl same ↦ omega (arith, ap (λ (n : ℕ). get_or places n 0) same, k.2)
                   | inr other ↦ omega (arith, rises places up i k.0 (omega arith) inside, k.2)
                 ] in
-                elim (lives_apart ws sma.from (tiles ws sma.from) (length ws) f (record { place = at; size = size }) full f_live.0 live) [
+                elim (lives_apart ws sma.bounds.from (tiles ws sma.bounds.from) (length ws) f (record { place = at; size = size }) full f_live.0 live) [
                   | inl same ↦
                       inl (omega (arith, ap (λ (x : Extent). x.place) same, ap (λ (x : Extent). x.size) same))
                   | inr apart ↦ elim apart [
@@ -280,7 +280,7 @@ next_block sma ws aside places i end at ready lives_all up inside is spread =
       spread = record {
         lower = λ k s low c.
             let below : get_or places k 0 < at = omega (arith, rises places up i k low inside) in
-            elim (lives_apart ws sma.from (tiles ws sma.from) (length ws) (record { place = get_or places k 0; size = s }) (record { place = at; size = size }) full c live) [
+            elim (lives_apart ws sma.bounds.from (tiles ws sma.bounds.from) (length ws) (record { place = get_or places k 0; size = s }) (record { place = at; size = size }) full c live) [
               | inl same ↦ absurd (omega (arith, ap (λ (x : Extent). x.place) same))
               | inr apart ↦ elim apart [
                 | inl before ↦ before
@@ -295,33 +295,33 @@ next_block sma ws aside places i end at ready lives_all up inside is spread =
     }
 
 -- after the loop nothing is kept before `end`
-pub last_between : (sma : Sma) (ws : List ℕ) (places : List ℕ) (i end : ℕ) → i ≡ 0 → Spread places (live_blocks ws sma.from) i end → Between (kept_blocks places (live_blocks ws sma.from)) sma.from end
+pub last_between : (sma : Sma) (ws : List ℕ) (places : List ℕ) (i end : ℕ) → i ≡ 0 → Spread places (live_blocks ws sma.bounds.from) i end → Between (kept_blocks places (live_blocks ws sma.bounds.from)) sma.bounds.from end
 unfolding Between
 last_between sma ws places i end is spread = λ f c.
-    let f_live = Contains-filter (λ (b : Extent). has b.place places) (live_blocks ws sma.from) f c in
+    let f_live = Contains-filter (λ (b : Extent). has b.place places) (live_blocks ws sma.bounds.from) f c in
     let k = has_index f.place places f_live.1 in
     inr (omega (arith, spread.upper k.0 (omega arith) k.1, k.2))
 
 -- all is laid
 pub record Keeps (sma sma' : Sma) (old new : List ℕ) (aside : Aside) (places : List ℕ) : Type 0 where
-  pub left : live_blocks new sma.from ≡ kept_blocks places (live_blocks old sma.from)
-  pub others : SameBlocks old new sma.from (kept_blocks places (live_blocks old sma.from))
+  pub left : live_blocks new sma.bounds.from ≡ kept_blocks places (live_blocks old sma.bounds.from)
+  pub others : SameBlocks old new sma.bounds.from (kept_blocks places (live_blocks old sma.bounds.from))
   pub ready : IsReady sma' new aside
 
-pub keeps : (sma sma' : Sma) (old new : List ℕ) (aside : Aside) (places : List ℕ) → IsReady sma old aside → sma'.from ≡ sma.from → sma'.to ≡ sma.to → sma'.piece ≡ sma.piece → length sma'.sizes ≡ length sma.sizes → Laid sma.piece old new aside places sma.from sma.from sma'.sizes sma'.head sma'.free false → Keeps sma sma' old new aside places
-keeps sma sma' old new aside places ready from to piece count h =
-    let all : past_end places sma.from (live_blocks old sma.from) ≡ kept_blocks places (live_blocks old sma.from) = filter_alike (λ (b : Extent). has b.place places && leb sma.from b.place) (λ (b : Extent). has b.place places) (live_blocks old sma.from) (λ e c.
-    let b = lives_between old sma.from (tiles old sma.from) (length old) e ready.formatted.full c in
-    whole (has e.place places) (leb sma.from e.place) (le-leb sma.from e.place b.0)) in
+pub keeps : (sma sma' : Sma) (old new : List ℕ) (aside : Aside) (places : List ℕ) → IsReady sma old aside → sma'.bounds ≡ sma.bounds → length sma'.sizes ≡ length sma.sizes → Laid sma.bounds.piece old new aside places sma.bounds.from sma.bounds.from sma'.sizes sma'.head sma'.free false → Keeps sma sma' old new aside places
+keeps sma sma' old new aside places ready bounds count h =
+    let all : past_end places sma.bounds.from (live_blocks old sma.bounds.from) ≡ kept_blocks places (live_blocks old sma.bounds.from) = filter_alike (λ (b : Extent). has b.place places && leb sma.bounds.from b.place) (λ (b : Extent). has b.place places) (live_blocks old sma.bounds.from) (λ e c.
+    let b = lives_between old sma.bounds.from (tiles old sma.bounds.from) (length old) e ready.formatted.full c in
+    whole (has e.place places) (leb sma.bounds.from e.place) (le-leb sma.bounds.from e.place b.0)) in
     let left = h.blocks ∙ all in
     let room = ready.indexed.room in
-    let filled : IsFilled (span_of sma) new aside = ready_from (span_of sma) new aside (ready.end ∙ sym h.count) (record { even = ready.formatted.even; full = h.laid.full; merged = h.laid.merged; whole = h.laid.whole }) (subst (λ (es : List Extent). NameLive new aside.windows es) (sym left) h.names) in
-    let here : IsIndexed new sma.from sma'.sizes = record { room = omega (arith, h.count); told = h.laid.told } in
-    let made : IsReady (record { from = sma.from; to = sma.to; piece = sma.piece; head = sma'.head; free = sma'.free; sizes = sma'.sizes }) new aside = ready_by (record { from = sma.from; to = sma.to; piece = sma.piece; head = sma'.head; free = sma'.free; sizes = sma'.sizes }) new aside ready.short ready.even filled here h.laid.linked h.laid.counted in
+    let filled : IsFilled sma.bounds new aside = ready_from sma.bounds new aside (ready.end ∙ sym h.count) (record { even = ready.formatted.even; full = h.laid.full; merged = h.laid.merged; whole = h.laid.whole }) (subst (λ (es : List Extent). NameLive new aside.windows es) (sym left) h.names) in
+    let here : IsIndexed new sma.bounds.from sma'.sizes = record { room = omega (arith, h.count); told = h.laid.told } in
+    let made : IsReady (record { bounds = sma.bounds; head = sma'.head; free = sma'.free; sizes = sma'.sizes }) new aside = ready_by (record { bounds = sma.bounds; head = sma'.head; free = sma'.free; sizes = sma'.sizes }) new aside ready.short ready.even filled here h.laid.linked h.laid.counted in
     record {
       left = left;
       others = record { count = h.count; before = h.before; inside = h.inside };
-      ready = same_sma sma' new aside sma.from sma.to sma.piece sma'.head sma'.free sma'.sizes from to piece refl refl refl made;
+      ready = same_sma sma' new aside sma.bounds sma'.head sma'.free sma'.sizes bounds refl refl refl made;
     }
   where
     whole : (x y : Bool) → y ≡ true → (x && y) ≡ x
@@ -329,9 +329,9 @@ keeps sma sma' old new aside places ready from to piece count h =
     whole false y e = refl
 
 -- the first word of a live block is told
-pub told_live : {sma : Sma} {ws : List ℕ} {aside : Aside} (ready : IsReady sma ws aside) (at size : ℕ) → Contains (live_blocks ws sma.from) (record { place = at; size = size }) → IsTold aside.windows at
+pub told_live : {sma : Sma} {ws : List ℕ} {aside : Aside} (ready : IsReady sma ws aside) (at size : ℕ) → Contains (live_blocks ws sma.bounds.from) (record { place = at; size = size }) → IsTold aside.windows at
 told_live {sma} {ws} {aside} ready at size live =
-    told_at_edge ws aside.windows sma.from at ready.windows (edge_of_live ws sma.from at size (tiles ws sma.from) sma.from (edge_start ws sma.from ready.formatted.full) refl live)
+    told_at_edge ws aside.windows sma.bounds.from at ready.windows (edge_of_live ws sma.bounds.from at size (tiles ws sma.bounds.from) sma.bounds.from (edge_start ws sma.bounds.from ready.formatted.full) refl live)
 
-pub in_order : {sma : Sma} {ws : List ℕ} {aside : Aside} → IsReady sma ws aside → AreBlocks ws sma.from (live_blocks ws sma.from) (length ws)
-in_order {sma} {ws} {aside} ready = lives_stand ws sma.from (tiles ws sma.from) (length ws) ready.formatted.full
+pub in_order : {sma : Sma} {ws : List ℕ} {aside : Aside} → IsReady sma ws aside → AreBlocks ws sma.bounds.from (live_blocks ws sma.bounds.from) (length ws)
+in_order {sma} {ws} {aside} ready = lives_stand ws sma.bounds.from (tiles ws sma.bounds.from) (length ws) ready.formatted.full

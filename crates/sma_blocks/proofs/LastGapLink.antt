@@ -12,7 +12,8 @@ use Rattle.sma_blocks.specs.Ready.{NameLive}
 use Rattle.sma_blocks.specs.Index.{size_at, IsIndexed}
 use Rattle.sma_blocks.specs.Chain.{AreLinked}
 use Rattle.sma_blocks.specs.Walk.{link_before, relinked_words, relinked_head}
-use Rattle.sma_blocks.proofs.Spans.{Span, IsFilled}
+use Rattle.sma_blocks.specs.declared.bounds.Bounds.{Bounds}
+use Rattle.sma_blocks.proofs.FilledWords.{IsFilled}
 use Rattle.sma_blocks.proofs.TileLemmas.{Fill-le, edge_whole}
 use Rattle.sma_blocks.proofs.LiveBlocks.{free_outside, is_free-append}
 use Rattle.sma_blocks.proofs.NamedBlocks.{between, may_store, told_from, ready_from}
@@ -79,75 +80,75 @@ gap_free ws from at size i g low high =
     let start : from ≤ at = Fill-le ws from g.edge.passed at g.edge.before in
     (ap (is_free i 1) (gap_blocks ws from at size g) ∙ is_free-append i 1 (lives g.edge.passed) (lives (tiles ws (at + size))) ∙ and_from (is_free i 1 (lives g.edge.passed)) (is_free i 1 (lives (tiles ws (at + size)))) left right, omega arith)
 
-gap_names : {span : Span} {ws : List ℕ} {aside : Aside} {at size : ℕ} (filled : IsFilled span ws aside) (g : GapAt ws span.from at size) → NameLive ws aside.windows (lives g.edge.passed ++ lives (tiles ws (at + size)))
-gap_names {span} {ws} {aside} {at} {size} filled g = subst (λ es. NameLive ws aside.windows es) (gap_blocks ws span.from at size g) filled.windows
+gap_names : {bounds : Bounds} {ws : List ℕ} {aside : Aside} {at size : ℕ} (filled : IsFilled bounds ws aside) (g : GapAt ws bounds.from at size) → NameLive ws aside.windows (lives g.edge.passed ++ lives (tiles ws (at + size)))
+gap_names {bounds} {ws} {aside} {at} {size} filled g = subst (λ es. NameLive ws aside.windows es) (gap_blocks ws bounds.from at size g) filled.windows
 
 -- they may be stored, and are told
-pub gap_apart : {span : Span} {ws : List ℕ} {aside : Aside} {at size : ℕ} (filled : IsFilled span ws aside) (g : GapAt ws span.from at size) (i : ℕ) → at ≤ i → i < at + size → MayStore ws aside.windows i
-gap_apart {span} {ws} {aside} {at} {size} filled g i low high =
+pub gap_apart : {bounds : Bounds} {ws : List ℕ} {aside : Aside} {at size : ℕ} (filled : IsFilled bounds ws aside) (g : GapAt ws bounds.from at size) (i : ℕ) → at ≤ i → i < at + size → MayStore ws aside.windows i
+gap_apart {bounds} {ws} {aside} {at} {size} filled g i low high =
     may_store ws aside.windows (lives g.edge.passed ++ lives (tiles ws (at + size))) at (at + size) i (gap_names filled g)
-    (between ws span.from g.edge.passed at (at + size) (tiles ws (at + size)) (length ws) g.edge.before (gap_fill ws span.from at size g).1) low high
+    (between ws bounds.from g.edge.passed at (at + size) (tiles ws (at + size)) (length ws) g.edge.before (gap_fill ws bounds.from at size g).1) low high
 
 pub told_apart : (ws windows : List ℕ) (i : ℕ) → MayStore ws windows i → IsTold windows i
 told_apart ws windows i may = told_from windows i (λ x named. (may x named).pin_count)
 
 -- the words after the link of a gap was set
-pub record Relinked (span : Span) (old new : List ℕ) (aside : Aside) : Type 0 where
+pub record Relinked (bounds : Bounds) (old new : List ℕ) (aside : Aside) : Type 0 where
   pub count : length new ≡ length old
-  pub same : tiles new span.from ≡ tiles old span.from
-  pub filled : IsFilled span new aside
+  pub same : tiles new bounds.from ≡ tiles old bounds.from
+  pub filled : IsFilled bounds new aside
 
-relinked_one : (span : Span) (ws : List ℕ) (aside : Aside) (at size v i : ℕ) → IsFilled span ws aside → GapAt ws span.from at size → i ≡ at + 1 → Relinked span ws (slice_set ws i v) aside
-relinked_one span ws aside at size v i filled g place =
+relinked_one : (bounds : Bounds) (ws : List ℕ) (aside : Aside) (at size v i : ℕ) → IsFilled bounds ws aside → GapAt ws bounds.from at size → i ≡ at + 1 → Relinked bounds ws (slice_set ws i v) aside
+relinked_one bounds ws aside at size v i filled g place =
     let new = slice_set ws i v in
-    let whole = gap_fill ws span.from at size g in
+    let whole = gap_fill ws bounds.from at size g in
     let wide : 2 ≤ size = whole.0.enough in
     let gap : Tile = record { place = at; size = size; live = false } in
     let first : slice_index new at ≡ slice_index ws at = get_or-set_other ws i at v 0 (λ e. omega arith) in
-    let change : Change ws new span.from at (at + size) g.edge.passed (gap ∷ []) (tiles ws (at + size)) = record {
+    let change : Change ws new bounds.from at (at + size) g.edge.passed (gap ∷ []) (tiles ws (at + size)) = record {
       before = g.edge.before;
       middle = (record { place = refl; word = first ∙ whole.0.word; even = whole.0.even; enough = wide }, refl);
       after = whole.1;
       same = λ j out. get_or-set_other ws i j v 0 (λ e. elim out [ inl l ↦ omega arith | inr r ↦ omega arith ]);
       count = length-set ws i v;
     } in
-    let all : tiles new span.from ≡ tiles ws span.from = change_tiles change ∙ sym (edge_whole ws span.from at g.edge ∙ ap (λ ps. g.edge.passed ++ ps) g.is) in
+    let all : tiles new bounds.from ≡ tiles ws bounds.from = change_tiles change ∙ sym (edge_whole ws bounds.from at g.edge ∙ ap (λ ps. g.edge.passed ++ ps) g.is) in
     let count : length new ≡ length ws = length-set ws i v in
-    let full : Fill new span.from (tiles new span.from) (length new) = subst (λ ps. Fill new span.from ps (length new)) (sym (change_tiles change)) (change_full change) in
+    let full : Fill new bounds.from (tiles new bounds.from) (length new) = subst (λ ps. Fill new bounds.from ps (length new)) (sym (change_tiles change)) (change_full change) in
     record {
       count = count;
       same = all;
-      filled = ready_from span new aside (filled.end ∙ sym count)
-          (record { even = filled.formatted.even; full = full; merged = ap (gaps_touch span.piece false) all ∙ filled.formatted.merged; whole = ap (are_whole span.piece) all ∙ filled.formatted.whole })
-          (subst (λ es. NameLive new aside.windows es) (sym (gap_blocks ws span.from at size g) ∙ sym (ap lives all)) (change_names aside.windows change (gap_names filled g)));
+      filled = ready_from bounds new aside (filled.end ∙ sym count)
+          (record { even = filled.formatted.even; full = full; merged = ap (gaps_touch bounds.piece false) all ∙ filled.formatted.merged; whole = ap (are_whole bounds.piece) all ∙ filled.formatted.whole })
+          (subst (λ es. NameLive new aside.windows es) (sym (gap_blocks ws bounds.from at size g) ∙ sym (ap lives all)) (change_names aside.windows change (gap_names filled g)));
     }
 
 -- where the index tells a last gap, or none
-pub relinked : (span : Span) (ws : List ℕ) (aside : Aside) (numbers : List ℕ) (index v : ℕ) (before : Option ℕ) → IsFilled span ws aside → IsIndexed ws span.from numbers → IsLastTold numbers index before → Relinked span ws (relinked_words ws before v) aside
-relinked span ws aside numbers index v None filled indexed last = record { count = refl; same = refl; filled = filled }
-relinked span ws aside numbers index v (Some q) filled indexed last =
-    relinked_one span ws aside (q + q) (get_or numbers q 0) v (2 * q + 1) filled (gap_told ws span.from numbers q filled.formatted indexed last.0.1) (omega arith)
+pub relinked : (bounds : Bounds) (ws : List ℕ) (aside : Aside) (numbers : List ℕ) (index v : ℕ) (before : Option ℕ) → IsFilled bounds ws aside → IsIndexed ws bounds.from numbers → IsLastTold numbers index before → Relinked bounds ws (relinked_words ws before v) aside
+relinked bounds ws aside numbers index v None filled indexed last = record { count = refl; same = refl; filled = filled }
+relinked bounds ws aside numbers index v (Some q) filled indexed last =
+    relinked_one bounds ws aside (q + q) (get_or numbers q 0) v (2 * q + 1) filled (gap_told ws bounds.from numbers q filled.formatted indexed last.0.1) (omega arith)
 
 -- what a call that reads or sets the link asks
-pub link_inside : (span : Span) (ws : List ℕ) (aside : Aside) (numbers : List ℕ) (index : ℕ) (before : Option ℕ) → IsFilled span ws aside → IsIndexed ws span.from numbers → IsLastTold numbers index before → MatchOption before (Unit {0}) (λ q. 2 * q + 1 < length ws)
-link_inside span ws aside numbers index None filled indexed last = tt
-link_inside span ws aside numbers index (Some q) filled indexed last =
-    let g = gap_told ws span.from numbers q filled.formatted indexed last.0.1 in
-    let whole = gap_fill ws span.from (q + q) (get_or numbers q 0) g in
+pub link_inside : (bounds : Bounds) (ws : List ℕ) (aside : Aside) (numbers : List ℕ) (index : ℕ) (before : Option ℕ) → IsFilled bounds ws aside → IsIndexed ws bounds.from numbers → IsLastTold numbers index before → MatchOption before (Unit {0}) (λ q. 2 * q + 1 < length ws)
+link_inside bounds ws aside numbers index None filled indexed last = tt
+link_inside bounds ws aside numbers index (Some q) filled indexed last =
+    let g = gap_told ws bounds.from numbers q filled.formatted indexed last.0.1 in
+    let whole = gap_fill ws bounds.from (q + q) (get_or numbers q 0) g in
     let wide = whole.0.enough in
     omega (arith, Fill-le ws (q + q + get_or numbers q 0) (tiles ws (q + q + get_or numbers q 0)) (length ws) whole.1)
 
-pub link_apart : (span : Span) (ws : List ℕ) (aside : Aside) (numbers : List ℕ) (index : ℕ) (before : Option ℕ) → IsFilled span ws aside → IsIndexed ws span.from numbers → IsLastTold numbers index before → MatchOption before (Unit {0}) (λ q. MayStore ws aside.windows (2 * q + 1))
-link_apart span ws aside numbers index None filled indexed last = tt
-link_apart span ws aside numbers index (Some q) filled indexed last =
-    let g = gap_told ws span.from numbers q filled.formatted indexed last.0.1 in
-    let wide = (gap_fill ws span.from (q + q) (get_or numbers q 0) g).0.enough in
+pub link_apart : (bounds : Bounds) (ws : List ℕ) (aside : Aside) (numbers : List ℕ) (index : ℕ) (before : Option ℕ) → IsFilled bounds ws aside → IsIndexed ws bounds.from numbers → IsLastTold numbers index before → MatchOption before (Unit {0}) (λ q. MayStore ws aside.windows (2 * q + 1))
+link_apart bounds ws aside numbers index None filled indexed last = tt
+link_apart bounds ws aside numbers index (Some q) filled indexed last =
+    let g = gap_told ws bounds.from numbers q filled.formatted indexed last.0.1 in
+    let wide = (gap_fill ws bounds.from (q + q) (get_or numbers q 0) g).0.enough in
     gap_apart filled g (2 * q + 1) (omega arith) (omega arith)
 
-pub link_told : (span : Span) (ws : List ℕ) (aside : Aside) (numbers : List ℕ) (index : ℕ) (before : Option ℕ) → IsFilled span ws aside → IsIndexed ws span.from numbers → IsLastTold numbers index before → MatchOption before (Unit {0}) (λ q. IsTold aside.windows (2 * q + 1))
-link_told span ws aside numbers index None filled indexed last = tt
-link_told span ws aside numbers index (Some q) filled indexed last =
-    told_apart ws aside.windows (2 * q + 1) (link_apart span ws aside numbers index (Some q) filled indexed last)
+pub link_told : (bounds : Bounds) (ws : List ℕ) (aside : Aside) (numbers : List ℕ) (index : ℕ) (before : Option ℕ) → IsFilled bounds ws aside → IsIndexed ws bounds.from numbers → IsLastTold numbers index before → MatchOption before (Unit {0}) (λ q. IsTold aside.windows (2 * q + 1))
+link_told bounds ws aside numbers index None filled indexed last = tt
+link_told bounds ws aside numbers index (Some q) filled indexed last =
+    told_apart ws aside.windows (2 * q + 1) (link_apart bounds ws aside numbers index (Some q) filled indexed last)
 
 -- the words of the blocks stay
 pub relinked_same : (ws mid : List ℕ) (from : ℕ) (numbers : List ℕ) (index v : ℕ) (before : Option ℕ) (blocks : List Extent) {s : ℕ} → IsFormatted ws from s → IsIndexed ws from numbers → IsLastTold numbers index before → ((i : ℕ) → is_free i 1 blocks ≡ false → is_free i 1 (live_blocks ws from) ≡ false) → SameBlocks ws mid from blocks → SameBlocks ws (relinked_words mid before v) from blocks

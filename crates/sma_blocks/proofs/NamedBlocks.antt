@@ -9,7 +9,8 @@ use Rattle.seg_words.specs.Windows.{Aside, has, is_named}
 use Rattle.seg_words.specs.Blocks.{image_end, IsTold, MayStore}
 use Rattle.sma_blocks.specs.Tiles.{Tile, tiles, Fill, IsFormatted}
 use Rattle.sma_blocks.specs.Live.{lives, live_blocks}
-use Rattle.sma_blocks.proofs.Spans.{Span, IsFilled}
+use Rattle.sma_blocks.specs.declared.bounds.Bounds.{Bounds}
+use Rattle.sma_blocks.proofs.FilledWords.{IsFilled}
 use Rattle.sma_blocks.specs.Ready.{NameLive}
 use Rattle.sma_blocks.specs.Walk.{IsEdge}
 use Rattle.sma_blocks.proofs.TileLemmas.{edge_whole, Part, part}
@@ -107,10 +108,10 @@ names_less ws windows xs e ys names free at named =
     }
 
 -- the tile at an edge, by the word that was read there
-pub part_read : (span : Span) (ws : List ℕ) (aside : Aside) (a w : ℕ) → IsFilled span ws aside → IsEdge ws span.from a → a < span.to → (IsTold aside.windows a → w ≡ slice_index ws a) → Part ws span.from a w
-part_read span ws aside a w ready edge lt read =
-    part ws span.from a w edge (omega (arith, ready.end)) (read (told_at_edge ws aside.windows span.from a ready.windows edge))
+pub part_read : (bounds : Bounds) (ws : List ℕ) (aside : Aside) (a w : ℕ) → IsFilled bounds ws aside → IsEdge ws bounds.from a → a < bounds.to → (IsTold aside.windows a → w ≡ slice_index ws a) → Part ws bounds.from a w
+part_read bounds ws aside a w ready edge lt read =
+    part ws bounds.from a w edge (omega (arith, ready.end)) (read (told_at_edge ws aside.windows bounds.from a ready.windows edge))
 
 -- words that are formatted, and whose live blocks the windows name, are ready
-pub ready_from : (span : Span) (ws : List ℕ) (aside : Aside) → span.to ≡ length ws → IsFormatted ws span.from span.piece → NameLive ws aside.windows (live_blocks ws span.from) → IsFilled span ws aside
-ready_from span ws aside end formatted names = record { end = end; formatted = formatted; windows = names }
+pub ready_from : (bounds : Bounds) (ws : List ℕ) (aside : Aside) → bounds.to ≡ length ws → IsFormatted ws bounds.from bounds.piece → NameLive ws aside.windows (live_blocks ws bounds.from) → IsFilled bounds ws aside
+ready_from bounds ws aside end formatted names = record { end = end; formatted = formatted; windows = names }

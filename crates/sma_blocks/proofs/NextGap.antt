@@ -4,18 +4,17 @@ use Rattle.std.specs.Prelude.{nat_le}
 use Rattle.std.proofs.lemmas.Bool.{cases_lt, cases_eq, cases_Bool, le-leb, lt-leb}
 use Rattle.seg_words.specs.declared.gaps.Extent.{Extent}
 use Rattle.seg_words.specs.Windows.{Aside}
-use Rattle.seg_words.specs.Gaps.{free_runs}
 use Rattle.sma_blocks.specs.declared.sma.Sma.{Sma}
 use Rattle.sma_blocks.specs.Tiles.{Tile, tiles, Fill}
-use Rattle.sma_blocks.specs.Live.{gaps, live_blocks}
+use Rattle.sma_blocks.specs.Live.{gaps, free_runs_in}
 use Rattle.sma_blocks.specs.Index.{here, size_at}
 use Rattle.sma_blocks.specs.Chain.{AreLinked}
 use Rattle.sma_blocks.specs.Ready.{IsReady}
 use Rattle.sma_blocks.specs.Walk.{link_before}
-use Rattle.sma_blocks.proofs.Spans.{span_of, filled_of}
+use Rattle.sma_blocks.proofs.FilledWords.{filled_of}
 use Rattle.sma_blocks.proofs.TileLemmas.{Fill-le}
 use Rattle.sma_blocks.proofs.LiveBlocks.{tile_extent}
-use Rattle.sma_blocks.proofs.SpanFreeRuns.{free_runs_of}
+use Rattle.sma_blocks.proofs.FilledFreeRuns.{free_runs_of}
 use Rattle.sma_blocks.proofs.FirstFit.{here_other, here_live, here_gap, size_outside, size_odd}
 use Rattle.sma_blocks.proofs.GapBeforeBlock.{size_within}
 use Rattle.sma_blocks.proofs.LastGapLink.{IsLastTold}
@@ -139,14 +138,14 @@ pair_of run = (run.place, run.size)
 -- what the look-up answers
 module _ {sma : Sma} {ws : List ℕ} {aside : Aside} (ready : IsReady sma ws aside) (at index v : ℕ) (before : Option ℕ) (half : index ≡ at / 2 + at % 2) (told : IsLastTold sma.sizes index before) (link : v ≡ link_before ws sma.head before) where
   abbrev all : List Tile
-  all = tiles ws sma.from
+  all = tiles ws sma.bounds.from
 
-  even : sma.from % 2 ≡ 0
+  even : sma.bounds.from % 2 ≡ 0
   even = ready.formatted.even
 
   zero_at : (q : ℕ) → (q % 2 ≡ 0 → get_or sma.sizes (q / 2) 0 ≡ 0) → size_at all q ≡ 0
   zero_at q zero = elim (cases_eq (q % 2) 0) [
-    | inr odd ↦ size_odd ws sma.from all (length ws) q ready.formatted.full even (omega arith)
+    | inr odd ↦ size_odd ws sma.bounds.from all (length ws) q ready.formatted.full even (omega arith)
     | inl is ↦
         let place : q / 2 + q / 2 ≡ q = omega arith in
         ap (λ (x : ℕ). size_at all x) (sym place) ∙ sym (ready.indexed.told (q / 2)) ∙ zero is
@@ -156,17 +155,17 @@ module _ {sma : Sma} {ws : List ℕ} {aside : Aside} (ready : IsReady sma ws asi
   first = subst (λ (x : ℕ). IsFirst all at x) (sym link) (go before told)
     where
       go : (before : Option ℕ) → IsLastTold sma.sizes index before → IsFirst all at (link_before ws sma.head before)
-      go None t = first_here ws sma.from all (length ws) sma.head at ready.formatted.full ready.linked (λ q low. zero_at q (λ e. t.0 (q / 2) (omega arith)))
+      go None t = first_here ws sma.bounds.from all (length ws) sma.head at ready.formatted.full ready.linked (λ q low. zero_at q (λ e. t.0 (q / 2) (omega arith)))
       go (Some q) t =
           let place : q + q ≡ 2 * q = omega arith in
           let some : size_at all (2 * q) ≢ 0 = λ e. t.0.1 (ready.indexed.told q ∙ ap (λ (x : ℕ). size_at all x) place ∙ e) in
           let low = t.0.0 in
-          first_after ws sma.from all (length ws) sma.head at (2 * q) ready.formatted.full ready.linked some (omega arith) (λ r over under. zero_at r (λ e. t.1 (r / 2) (omega arith) (omega arith)))
+          first_after ws sma.bounds.from all (length ws) sma.head at (2 * q) ready.formatted.full ready.linked some (omega arith) (λ r over under. zero_at r (λ e. t.1 (r / 2) (omega arith) (omega arith)))
 
-  runs : free_runs sma.from sma.to sma.piece (live_blocks ws sma.from) ≡ gaps all
-  runs = free_runs_of (span_of sma) ws aside (filled_of ready)
+  runs : free_runs_in sma.bounds ws ≡ gaps all
+  runs = free_runs_of sma.bounds ws aside (filled_of ready)
 
-  answer : (r : Option Extent) → past at all ≡ r → option_map pair_of r ≡ option_map pair_of (find (λ (run : Extent). nat_le at run.place) (free_runs sma.from sma.to sma.piece (live_blocks ws sma.from)))
+  answer : (r : Option Extent) → past at all ≡ r → option_map pair_of r ≡ option_map pair_of (find (λ (run : Extent). nat_le at run.place) (free_runs_in sma.bounds ws))
   answer r is = ap (option_map pair_of) (sym is ∙ ap (find (λ (run : Extent). nat_le at run.place)) (sym runs))
 
   pub ask_small : 2 ≤ length ws → (v ≤ length ws) × (v / 2 < length sma.sizes)
@@ -174,13 +173,13 @@ module _ {sma : Sma} {ws : List ℕ} {aside : Aside} (ready : IsReady sma ws asi
       let room = ready.indexed.room in
       elim first [
         | inl nothing ↦ let zero = nothing.1 in (omega arith, omega arith)
-        | inr found ↦ elim (size_within ws sma.from all (length ws) v ready.formatted.full) [
+        | inr found ↦ elim (size_within ws sma.bounds.from all (length ws) v ready.formatted.full) [
           | inl none ↦ absurd (omega (arith, found.2))
           | inr within ↦ (omega arith, omega (arith, found.2))
         ]
       ]
 
-  pub ask_before : v < at → None ≡ option_map pair_of (find (λ (run : Extent). nat_le at run.place) (free_runs sma.from sma.to sma.piece (live_blocks ws sma.from)))
+  pub ask_before : v < at → None ≡ option_map pair_of (find (λ (run : Extent). nat_le at run.place) (free_runs_in sma.bounds ws))
   ask_before low = elim first [
     | inl nothing ↦ answer None nothing.0
     | inr found ↦ absurd (omega (arith, found.1))
@@ -188,19 +187,19 @@ module _ {sma : Sma} {ws : List ℕ} {aside : Aside} (ready : IsReady sma ws asi
 
   size_is : (size : ℕ) → size ≡ get_or sma.sizes (v / 2) 0 → 1 ≤ size_at all v → size ≡ size_at all v
   size_is size is some = elim (cases_eq (v % 2) 0) [
-    | inr odd ↦ absurd (omega (arith, size_odd ws sma.from all (length ws) v ready.formatted.full even (omega arith)))
+    | inr odd ↦ absurd (omega (arith, size_odd ws sma.bounds.from all (length ws) v ready.formatted.full even (omega arith)))
     | inl even_place ↦
         let place : v / 2 + v / 2 ≡ v = omega arith in
         is ∙ ready.indexed.told (v / 2) ∙ ap (λ (x : ℕ). size_at all x) place
   ]
 
-  pub ask_none : (size : ℕ) → size ≡ get_or sma.sizes (v / 2) 0 → size ≡ 0 → None ≡ option_map pair_of (find (λ (run : Extent). nat_le at run.place) (free_runs sma.from sma.to sma.piece (live_blocks ws sma.from)))
+  pub ask_none : (size : ℕ) → size ≡ get_or sma.sizes (v / 2) 0 → size ≡ 0 → None ≡ option_map pair_of (find (λ (run : Extent). nat_le at run.place) (free_runs_in sma.bounds ws))
   ask_none size is zero = elim first [
     | inl nothing ↦ answer None nothing.0
     | inr found ↦ absurd (omega (arith, size_is size is found.2, found.2))
   ]
 
-  pub ask_some : (size : ℕ) → size ≡ get_or sma.sizes (v / 2) 0 → size ≢ 0 → at ≤ v → Some (v, size) ≡ option_map pair_of (find (λ (run : Extent). nat_le at run.place) (free_runs sma.from sma.to sma.piece (live_blocks ws sma.from)))
+  pub ask_some : (size : ℕ) → size ≡ get_or sma.sizes (v / 2) 0 → size ≢ 0 → at ≤ v → Some (v, size) ≡ option_map pair_of (find (λ (run : Extent). nat_le at run.place) (free_runs_in sma.bounds ws))
   ask_some size is some low = elim first [
     | inl nothing ↦
         let zero : v ≡ 0 = nothing.1 in
@@ -221,14 +220,14 @@ module _ {sma : Sma} {ws : List ℕ} {aside : Aside} (ready : IsReady sma ws asi
         absurd (past_some all at 0 (λ e. some (told_zero ∙ e)) (omega arith) nothing.0)
     | inr found ↦
         let even_place : v % 2 ≡ 0 = elim (cases_eq (v % 2) 0) [
-          | inr odd ↦ absurd (omega (arith, found.2, size_odd ws sma.from all (length ws) v ready.formatted.full even (omega arith)))
+          | inr odd ↦ absurd (omega (arith, found.2, size_odd ws sma.bounds.from all (length ws) v ready.formatted.full even (omega arith)))
           | inl is_even ↦ is_even
         ] in (
           even_place,
           λ k from under. elim (cases_eq (size_at all (k + k)) 0) [
             | inl none ↦ ready.indexed.told k ∙ none
             | inr gap ↦
-                let least : v ≤ k + k = past_least ws sma.from all (length ws) at (k + k) _ ready.formatted.full gap from found.0 in
+                let least : v ≤ k + k = past_least ws sma.bounds.from all (length ws) at (k + k) _ ready.formatted.full gap from found.0 in
                 absurd (omega arith)
           ],
         )
@@ -247,6 +246,6 @@ past_end ws a (p ∷ ps) b at h near =
           past_gap at p ps gap ∙ ap (λ (t : Bool). cond t (Some (tile_extent p)) (past at ps)) (lt-leb at p.place (omega (arith, h.0.place))) ∙ rest
     ]
 
-pub ask_end : {sma : Sma} {ws : List ℕ} {aside : Aside} (ready : IsReady sma ws aside) (at : ℕ) → length ws ≤ at + 1 → None ≡ option_map pair_of (find (λ (run : Extent). nat_le at run.place) (free_runs sma.from sma.to sma.piece (live_blocks ws sma.from)))
+pub ask_end : {sma : Sma} {ws : List ℕ} {aside : Aside} (ready : IsReady sma ws aside) (at : ℕ) → length ws ≤ at + 1 → None ≡ option_map pair_of (find (λ (run : Extent). nat_le at run.place) (free_runs_in sma.bounds ws))
 ask_end {sma} {ws} {aside} ready at near =
-    ap (option_map pair_of) (sym (past_end ws sma.from (tiles ws sma.from) (length ws) at ready.formatted.full near) ∙ ap (find (λ (run : Extent). nat_le at run.place)) (sym (free_runs_of (span_of sma) ws aside (filled_of ready))))
+    ap (option_map pair_of) (sym (past_end ws sma.bounds.from (tiles ws sma.bounds.from) (length ws) at ready.formatted.full near) ∙ ap (find (λ (run : Extent). nat_le at run.place)) (sym (free_runs_of sma.bounds ws aside (filled_of ready))))

@@ -73,10 +73,10 @@ name_stays old new at size inside key image =
     omega (arith, same, inside)
 
 -- the words that change leave tiles, links and names as they are
-stays : (sma : Sma) (old new : List ℕ) (aside : Aside) → IsReady sma old aside → length new ≡ length old → Fill new sma.from (tiles old sma.from) (length old) → ((i : ℕ) → IsGapWord (tiles old sma.from) i → slice_index new i ≡ slice_index old i) → NameLive new aside.windows (live_blocks old sma.from) → Stays sma old new aside
+stays : (sma : Sma) (old new : List ℕ) (aside : Aside) → IsReady sma old aside → length new ≡ length old → Fill new sma.bounds.from (tiles old sma.bounds.from) (length old) → ((i : ℕ) → IsGapWord (tiles old sma.bounds.from) i → slice_index new i ≡ slice_index old i) → NameLive new aside.windows (live_blocks old sma.bounds.from) → Stays sma old new aside
 stays sma old new aside h count filled links names =
-    let full : Fill new sma.from (tiles old sma.from) (length new) = subst (λ x. Fill new sma.from (tiles old sma.from) x) (sym count) filled in
-    let all : tiles new sma.from ≡ tiles old sma.from = tiles-filled new sma.from (tiles old sma.from) full in
+    let full : Fill new sma.bounds.from (tiles old sma.bounds.from) (length new) = subst (λ x. Fill new sma.bounds.from (tiles old sma.bounds.from) x) (sym count) filled in
+    let all : tiles new sma.bounds.from ≡ tiles old sma.bounds.from = tiles-filled new sma.bounds.from (tiles old sma.bounds.from) full in
     let room = h.indexed.room in
     record {
       blocks = ap lives all;
@@ -86,29 +86,29 @@ stays sma old new aside h count filled links names =
         even = h.even;
         formatted = record {
           even = h.formatted.even;
-          full = subst (λ ps. Fill new sma.from ps (length new)) (sym all) full;
-          merged = ap (gaps_touch sma.piece false) all ∙ h.formatted.merged;
-          whole = ap (are_whole sma.piece) all ∙ h.formatted.whole;
+          full = subst (λ ps. Fill new sma.bounds.from ps (length new)) (sym all) full;
+          merged = ap (gaps_touch sma.bounds.piece false) all ∙ h.formatted.merged;
+          whole = ap (are_whole sma.bounds.piece) all ∙ h.formatted.whole;
         };
         windows = subst (λ es. NameLive new aside.windows es) (sym (ap lives all)) names;
         indexed = record { room = omega (arith, count); told = λ i. h.indexed.told i ∙ ap (λ ps. size_at ps (i + i)) (sym all) };
-        linked = subst (λ ps. AreLinked new sma.head ps 0) (sym all) (link_same old new sma.from (tiles old sma.from) (length old) sma.head 0 h.formatted.full links h.linked);
+        linked = subst (λ ps. AreLinked new sma.head ps 0) (sym all) (link_same old new sma.bounds.from (tiles old sma.bounds.from) (length old) sma.head 0 h.formatted.full links h.linked);
         counted = h.counted ∙ ap gap_words (sym all);
       };
     }
 
-pub stays_inside : (sma : Sma) (old new : List ℕ) (aside : Aside) (e : Extent) → IsReady sma old aside → Contains (live_blocks old sma.from) e → ChangesInside old new e → KeepsLengths aside.windows old new e.place → Stays sma old new aside
+pub stays_inside : (sma : Sma) (old new : List ℕ) (aside : Aside) (e : Extent) → IsReady sma old aside → Contains (live_blocks old sma.bounds.from) e → ChangesInside old new e → KeepsLengths aside.windows old new e.place → Stays sma old new aside
 stays_inside sma old new aside e h live change lengths =
-    stays sma old new aside h change.count (fill_inside old new sma.from (tiles old sma.from) (length old) e change.outside h.formatted.full live) links names
+    stays sma old new aside h change.count (fill_inside old new sma.bounds.from (tiles old sma.bounds.from) (length old) e change.outside h.formatted.full live) links names
   where
-    links : (i : ℕ) → IsGapWord (tiles old sma.from) i → slice_index new i ≡ slice_index old i
-    links i g = change.outside i (elim (gap_word_free old sma.from (tiles old sma.from) (length old) i e h.formatted.full g live) [ inl low ↦ inl (omega arith) | inr high ↦ inr high ])
+    links : (i : ℕ) → IsGapWord (tiles old sma.bounds.from) i → slice_index new i ≡ slice_index old i
+    links i g = change.outside i (elim (gap_word_free old sma.bounds.from (tiles old sma.bounds.from) (length old) i e h.formatted.full g live) [ inl low ↦ inl (omega arith) | inr high ↦ inr high ])
 
-    names : NameLive new aside.windows (live_blocks old sma.from)
+    names : NameLive new aside.windows (live_blocks old sma.bounds.from)
     names at named =
         let block = h.windows at named in
         let f : Extent = record { place = at; size = block.size } in
-        let end : image_end new at ≤ at + block.size = elim (lives_apart old sma.from (tiles old sma.from) (length old) e f h.formatted.full live block.live) [
+        let end : image_end new at ≤ at + block.size = elim (lives_apart old sma.bounds.from (tiles old sma.bounds.from) (length old) e f h.formatted.full live block.live) [
           | inl same ↦
               let place : e.place ≡ at = ap (λ (x : Extent). x.place) same in
               let kept = subst (λ x. KeepsLengths aside.windows old new x) place lengths named in
@@ -120,17 +120,17 @@ stays_inside sma old new aside e h live change lengths =
         ] in
         record { size = block.size; live = block.live; inside = end }
 
-pub stays_before : (sma : Sma) (old new : List ℕ) (aside : Aside) → IsReady sma old aside → ChangesBefore old new sma.from → Stays sma old new aside
+pub stays_before : (sma : Sma) (old new : List ℕ) (aside : Aside) → IsReady sma old aside → ChangesBefore old new sma.bounds.from → Stays sma old new aside
 stays_before sma old new aside h change =
-    stays sma old new aside h change.count (Fill-same old new sma.from (tiles old sma.from) (length old) (λ k first last. change.after k first) h.formatted.full) links names
+    stays sma old new aside h change.count (Fill-same old new sma.bounds.from (tiles old sma.bounds.from) (length old) (λ k first last. change.after k first) h.formatted.full) links names
   where
-    links : (i : ℕ) → IsGapWord (tiles old sma.from) i → slice_index new i ≡ slice_index old i
-    links i g = change.after i (gap_word_inside old sma.from (tiles old sma.from) (length old) i h.formatted.full g).0
+    links : (i : ℕ) → IsGapWord (tiles old sma.bounds.from) i → slice_index new i ≡ slice_index old i
+    links i g = change.after i (gap_word_inside old sma.bounds.from (tiles old sma.bounds.from) (length old) i h.formatted.full g).0
 
-    names : NameLive new aside.windows (live_blocks old sma.from)
+    names : NameLive new aside.windows (live_blocks old sma.bounds.from)
     names at named =
         let block = h.windows at named in
-        let between = lives_between old sma.from (tiles old sma.from) (length old) (record { place = at; size = block.size }) h.formatted.full block.live in
+        let between = lives_between old sma.bounds.from (tiles old sma.bounds.from) (length old) (record { place = at; size = block.size }) h.formatted.full block.live in
         record { size = block.size; live = block.live; inside = name_stays old new at block.size block.inside (change.after (at + KEY_LENGTH) (omega (arith, between.0))) (change.after (at + IMAGE_LENGTH) (omega (arith, between.0))) }
 
 -- words inside several live blocks change, and words before them
@@ -164,18 +164,18 @@ fill_inner old new a (p ∷ ps) b same h =
 
 pub stays_inner : (sma : Sma) (old new : List ℕ) (aside : Aside) → IsReady sma old aside → ChangesInner sma old new aside → Stays sma old new aside
 stays_inner sma old new aside h change =
-    stays sma old new aside h change.count (fill_inner old new sma.from (tiles old sma.from) (length old) (λ i low high. change.inner i low) h.formatted.full) links names
+    stays sma old new aside h change.count (fill_inner old new sma.bounds.from (tiles old sma.bounds.from) (length old) (λ i low high. change.inner i low) h.formatted.full) links names
   where
-    links : (i : ℕ) → IsGapWord (tiles old sma.from) i → slice_index new i ≡ slice_index old i
-    links i g = elim (change.inner i (gap_word_inside old sma.from (tiles old sma.from) (length old) i h.formatted.full g).0) [
+    links : (i : ℕ) → IsGapWord (tiles old sma.bounds.from) i → slice_index new i ≡ slice_index old i
+    links i g = elim (change.inner i (gap_word_inside old sma.bounds.from (tiles old sma.bounds.from) (length old) i h.formatted.full g).0) [
       | inl same ↦ same
       | inr x ↦
           let low = x.low in
           let high = x.high in
-          elim (gap_word_free old sma.from (tiles old sma.from) (length old) i x.block h.formatted.full g x.live) [ inl before ↦ absurd (omega arith) | inr after ↦ absurd (omega arith) ]
+          elim (gap_word_free old sma.bounds.from (tiles old sma.bounds.from) (length old) i x.block h.formatted.full g x.live) [ inl before ↦ absurd (omega arith) | inr after ↦ absurd (omega arith) ]
     ]
 
-    names : NameLive new aside.windows (live_blocks old sma.from)
+    names : NameLive new aside.windows (live_blocks old sma.bounds.from)
     names at named =
         let block = h.windows at named in
         let both = change.named at named in

@@ -6,7 +6,8 @@ use Rattle.std.proofs.lemmas.List.Elements.{Contains-append_cases}
 use Rattle.seg_words.specs.declared.gaps.Extent.{Extent}
 use Rattle.seg_words.specs.Windows.{Aside, is_named}
 use Rattle.seg_words.specs.Blocks.{MayStore}
-use Rattle.sma_blocks.proofs.Spans.{Span, IsFilled}
+use Rattle.sma_blocks.specs.declared.bounds.Bounds.{Bounds}
+use Rattle.sma_blocks.proofs.FilledWords.{IsFilled}
 use Rattle.sma_blocks.specs.Tiles.{Tile, tiles, Fill, gaps_touch, are_whole, IsFormatted}
 use Rattle.sma_blocks.specs.Live.{lives, live_blocks, IsLive, without_block, SameBlocks}
 use Rattle.sma_blocks.specs.Ready.{NameLive}
@@ -42,9 +43,9 @@ live_ahead ws from place at p rest h is live ahead =
     go false f c = inr (lives_between ws (place + p.size) rest (length ws) (record { place = at; size = live.0 }) f.1 c).0
 
 -- a live block lies before the end
-pub live_inside : (span : Span) (ws : List ℕ) (aside : Aside) (at : ℕ) → IsFilled span ws aside → IsLive (live_blocks ws span.from) at → (span.from ≤ at) × (at + 2 ≤ span.to)
-live_inside span ws aside at h live =
-    let b = lives_between ws span.from (tiles ws span.from) (length ws) (record { place = at; size = live.0 }) h.formatted.full live.1 in
+pub live_inside : (bounds : Bounds) (ws : List ℕ) (aside : Aside) (at : ℕ) → IsFilled bounds ws aside → IsLive (live_blocks ws bounds.from) at → (bounds.from ≤ at) × (at + 2 ≤ bounds.to)
+live_inside bounds ws aside at h live =
+    let b = lives_between ws bounds.from (tiles ws bounds.from) (length ws) (record { place = at; size = live.0 }) h.formatted.full live.1 in
     (b.0, omega (arith, b.1, b.2, h.end))
 
 -- the words before are as free where the words were only read
@@ -85,11 +86,11 @@ after_gap ws from end size rest {s} formatted h is joined =
     record { tail = p ∷ []; rest = rest; between = (filled.0, refl); after = filled.1; free = refl; one = omega arith; whole = λ lt. subst (λ (x : ℕ). is_whole s end x ≡ true) (omega arith) (whole_at ws from s end h rest formatted is); joined = λ lt. joined; begins_live = (merged_gap s false p rest refl merged).1 }
 
 -- a live block with the free words round it
-pub record Around (span : Span) (ws : List ℕ) (aside : Aside) (at size first last : ℕ) : Type 0 where
-  pub ready : IsFilled span ws aside
-  pub before : IsFreeBefore ws span.from span.piece first at
+pub record Around (bounds : Bounds) (ws : List ℕ) (aside : Aside) (at size first last : ℕ) : Type 0 where
+  pub ready : IsFilled bounds ws aside
+  pub before : IsFreeBefore ws bounds.from bounds.piece first at
   pub is : tiles ws at ≡ record { place = at; size = size; live = true } ∷ tiles ws (at + size)
-  pub after : IsFreeAfter ws span.piece (at + size) last
+  pub after : IsFreeAfter ws bounds.piece (at + size) last
   pub unnamed : is_named aside.windows at ≡ false
 
 abbrev pub block : ℕ → ℕ → Tile
@@ -101,40 +102,40 @@ given at size = record { place = at; size = size }
 abbrev pub gap : ℕ → ℕ → Tile
 gap first last = record { place = first; size = last - first; live = false }
 
-pub around_fill : {span : Span} {ws : List ℕ} {aside : Aside} {at size first last : ℕ} (h : Around span ws aside at size first last) → Fill ws at (block at size ∷ tiles ws (at + size)) (length ws)
-around_fill {span} {ws} {aside} {at} {size} {first} {last} h = subst (λ ps. Fill ws at ps (length ws)) h.is h.before.after
+pub around_fill : {bounds : Bounds} {ws : List ℕ} {aside : Aside} {at size first last : ℕ} (h : Around bounds ws aside at size first last) → Fill ws at (block at size ∷ tiles ws (at + size)) (length ws)
+around_fill {bounds} {ws} {aside} {at} {size} {first} {last} h = subst (λ ps. Fill ws at ps (length ws)) h.is h.before.after
 
-pub around_tiles : {span : Span} {ws : List ℕ} {aside : Aside} {at size first last : ℕ} (h : Around span ws aside at size first last) → tiles ws span.from ≡ h.before.front ++ (h.before.tail ++ (block at size ∷ (h.after.tail ++ h.after.rest)))
-around_tiles {span} {ws} {aside} {at} {size} {first} {last} h =
+pub around_tiles : {bounds : Bounds} {ws : List ℕ} {aside : Aside} {at size first last : ℕ} (h : Around bounds ws aside at size first last) → tiles ws bounds.from ≡ h.before.front ++ (h.before.tail ++ (block at size ∷ (h.after.tail ++ h.after.rest)))
+around_tiles {bounds} {ws} {aside} {at} {size} {first} {last} h =
     let behind : Fill ws (at + size) (h.after.tail ++ h.after.rest) (length ws) = Fill-append ws (at + size) h.after.tail last h.after.rest (length ws) h.after.between h.after.after in
     let here : Fill ws at (block at size ∷ (h.after.tail ++ h.after.rest)) (length ws) = ((around_fill h).0, behind) in
-    tiles-filled ws span.from (h.before.front ++ (h.before.tail ++ (block at size ∷ (h.after.tail ++ h.after.rest))))
-    (Fill-append ws span.from h.before.front first (h.before.tail ++ (block at size ∷ (h.after.tail ++ h.after.rest))) (length ws) h.before.before
+    tiles-filled ws bounds.from (h.before.front ++ (h.before.tail ++ (block at size ∷ (h.after.tail ++ h.after.rest))))
+    (Fill-append ws bounds.from h.before.front first (h.before.tail ++ (block at size ∷ (h.after.tail ++ h.after.rest))) (length ws) h.before.before
     (Fill-append ws first h.before.tail at (block at size ∷ (h.after.tail ++ h.after.rest)) (length ws) h.before.between here))
 
-pub around_blocks : {span : Span} {ws : List ℕ} {aside : Aside} {at size first last : ℕ} (h : Around span ws aside at size first last) → live_blocks ws span.from ≡ lives h.before.front ++ given at size ∷ lives h.after.rest
-around_blocks {span} {ws} {aside} {at} {size} {first} {last} h =
+pub around_blocks : {bounds : Bounds} {ws : List ℕ} {aside : Aside} {at size first last : ℕ} (h : Around bounds ws aside at size first last) → live_blocks ws bounds.from ≡ lives h.before.front ++ given at size ∷ lives h.after.rest
+around_blocks {bounds} {ws} {aside} {at} {size} {first} {last} h =
     let behind : lives (h.after.tail ++ h.after.rest) ≡ lives h.after.rest = lives-append h.after.tail h.after.rest ∙ ap (λ es. es ++ lives h.after.rest) h.after.free in
     let here : lives (h.before.tail ++ (block at size ∷ (h.after.tail ++ h.after.rest))) ≡ given at size ∷ lives (h.after.tail ++ h.after.rest) =
     lives-append h.before.tail (block at size ∷ (h.after.tail ++ h.after.rest)) ∙ ap (λ es. es ++ (given at size ∷ lives (h.after.tail ++ h.after.rest))) h.before.free in
     ap lives (around_tiles h) ∙ lives-append h.before.front (h.before.tail ++ (block at size ∷ (h.after.tail ++ h.after.rest))) ∙ ap (λ es. lives h.before.front ++ es) (here ∙ ap (λ es. given at size ∷ es) behind)
 
-pub around_order : {span : Span} {ws : List ℕ} {aside : Aside} {at size first last : ℕ} (h : Around span ws aside at size first last) → (first ≤ at) × (at + size ≤ last) × (last ≤ length ws) × (2 ≤ size)
-around_order {span} {ws} {aside} {at} {size} {first} {last} h =
+pub around_order : {bounds : Bounds} {ws : List ℕ} {aside : Aside} {at size first last : ℕ} (h : Around bounds ws aside at size first last) → (first ≤ at) × (at + size ≤ last) × (last ≤ length ws) × (2 ≤ size)
+around_order {bounds} {ws} {aside} {at} {size} {first} {last} h =
     (Fill-le ws first h.before.tail at h.before.between, Fill-le ws (at + size) h.after.tail last h.after.between, Fill-le ws last h.after.rest (length ws) h.after.after, (around_fill h).0.enough)
 
-give_middle : {span : Span} {ws : List ℕ} {aside : Aside} {at size first last : ℕ} (h : Around span ws aside at size first last) (next : ℕ) → Fill (merged_words ws first last next) first (gap first last ∷ []) last
-give_middle {span} {ws} {aside} {at} {size} {first} {last} h next =
+give_middle : {bounds : Bounds} {ws : List ℕ} {aside : Aside} {at size first last : ℕ} (h : Around bounds ws aside at size first last) (next : ℕ) → Fill (merged_words ws first last next) first (gap first last ∷ []) last
+give_middle {bounds} {ws} {aside} {at} {size} {first} {last} h next =
     let order = around_order h in
-    let low : first % 2 ≡ 0 = Fill-even ws span.from h.before.front first h.before.before h.ready.formatted.even in
+    let low : first % 2 ≡ 0 = Fill-even ws bounds.from h.before.front first h.before.before h.ready.formatted.even in
     let here : at % 2 ≡ 0 = Fill-even ws first h.before.tail at h.before.between low in
     let end : (at + size) % 2 ≡ 0 = omega (arith, (around_fill h).0.even, here) in
     let high : last % 2 ≡ 0 = Fill-even ws (at + size) h.after.tail last h.after.between end in
     let word : slice_index (merged_words ws first last next) first ≡ (last - first) + 1 = merged_first ws first last next (omega (arith, order.0, order.1, order.2, order.3)) in
     (record { place = refl; word = word; even = omega (arith, low, high, order.0, order.1); enough = omega (arith, order.0, order.1, order.3) }, omega (arith, order.0, order.1))
 
-pub give_change : {span : Span} {ws : List ℕ} {aside : Aside} {at size first last : ℕ} (h : Around span ws aside at size first last) (next : ℕ) → Change ws (merged_words ws first last next) span.from first last h.before.front (gap first last ∷ []) h.after.rest
-give_change {span} {ws} {aside} {at} {size} {first} {last} h next =
+pub give_change : {bounds : Bounds} {ws : List ℕ} {aside : Aside} {at size first last : ℕ} (h : Around bounds ws aside at size first last) (next : ℕ) → Change ws (merged_words ws first last next) bounds.from first last h.before.front (gap first last ∷ []) h.after.rest
+give_change {bounds} {ws} {aside} {at} {size} {first} {last} h next =
     let order = around_order h in
     record {
       before = h.before.before;
@@ -147,41 +148,41 @@ give_change {span} {ws} {aside} {at} {size} {first} {last} h next =
       count = merged_count ws first last next;
     }
 
-give_without : {span : Span} {ws : List ℕ} {aside : Aside} {at size first last : ℕ} (h : Around span ws aside at size first last) → without_block at (live_blocks ws span.from) ≡ lives h.before.front ++ lives h.after.rest
-give_without {span} {ws} {aside} {at} {size} {first} {last} h =
+give_without : {bounds : Bounds} {ws : List ℕ} {aside : Aside} {at size first last : ℕ} (h : Around bounds ws aside at size first last) → without_block at (live_blocks ws bounds.from) ≡ lives h.before.front ++ lives h.after.rest
+give_without {bounds} {ws} {aside} {at} {size} {first} {last} h =
     let order = around_order h in
-    ap (without_block at) (around_blocks h) ∙ without_block_between ws span.from h.before.front first last h.after.rest (length ws) (given at size) h.before.before h.after.after order.0 (omega (arith, order.1, order.3))
+    ap (without_block at) (around_blocks h) ∙ without_block_between ws bounds.from h.before.front first last h.after.rest (length ws) (given at size) h.before.before h.after.after order.0 (omega (arith, order.1, order.3))
 
 -- the live blocks lose the one that is given
-pub give_less : {span : Span} {ws : List ℕ} {aside : Aside} {at size first last : ℕ} (h : Around span ws aside at size first last) (next : ℕ) → live_blocks (merged_words ws first last next) span.from ≡ without_block at (live_blocks ws span.from)
-give_less {span} {ws} {aside} {at} {size} {first} {last} h next = change_blocks (give_change h next) ∙ sym (give_without h)
+pub give_less : {bounds : Bounds} {ws : List ℕ} {aside : Aside} {at size first last : ℕ} (h : Around bounds ws aside at size first last) (next : ℕ) → live_blocks (merged_words ws first last next) bounds.from ≡ without_block at (live_blocks ws bounds.from)
+give_less {bounds} {ws} {aside} {at} {size} {first} {last} h next = change_blocks (give_change h next) ∙ sym (give_without h)
 
-pub give_same : {span : Span} {ws : List ℕ} {aside : Aside} {at size first last : ℕ} (h : Around span ws aside at size first last) (next : ℕ) → SameBlocks ws (merged_words ws first last next) span.from (without_block at (live_blocks ws span.from))
-give_same {span} {ws} {aside} {at} {size} {first} {last} h next =
-    subst (λ es. SameBlocks ws (merged_words ws first last next) span.from es) (sym (give_without h)) (change_same (give_change h next))
+pub give_same : {bounds : Bounds} {ws : List ℕ} {aside : Aside} {at size first last : ℕ} (h : Around bounds ws aside at size first last) (next : ℕ) → SameBlocks ws (merged_words ws first last next) bounds.from (without_block at (live_blocks ws bounds.from))
+give_same {bounds} {ws} {aside} {at} {size} {first} {last} h next =
+    subst (λ es. SameBlocks ws (merged_words ws first last next) bounds.from es) (sym (give_without h)) (change_same (give_change h next))
 
-give_names : {span : Span} {ws : List ℕ} {aside : Aside} {at size first last : ℕ} (h : Around span ws aside at size first last) → NameLive ws aside.windows (lives h.before.front ++ lives h.after.rest)
-give_names {span} {ws} {aside} {at} {size} {first} {last} h =
+give_names : {bounds : Bounds} {ws : List ℕ} {aside : Aside} {at size first last : ℕ} (h : Around bounds ws aside at size first last) → NameLive ws aside.windows (lives h.before.front ++ lives h.after.rest)
+give_names {bounds} {ws} {aside} {at} {size} {first} {last} h =
     names_less ws aside.windows (lives h.before.front) (given at size) (lives h.after.rest) (subst (λ es. NameLive ws aside.windows es) (around_blocks h) h.ready.windows) h.unnamed
 
 -- the words of the gap that is made may be stored
-pub give_apart : {span : Span} {ws : List ℕ} {aside : Aside} {at size first last : ℕ} (h : Around span ws aside at size first last) (i : ℕ) → first ≤ i → i < last → MayStore ws aside.windows i
-give_apart {span} {ws} {aside} {at} {size} {first} {last} h i low high =
+pub give_apart : {bounds : Bounds} {ws : List ℕ} {aside : Aside} {at size first last : ℕ} (h : Around bounds ws aside at size first last) (i : ℕ) → first ≤ i → i < last → MayStore ws aside.windows i
+give_apart {bounds} {ws} {aside} {at} {size} {first} {last} h i low high =
     may_store ws aside.windows (lives h.before.front ++ lives h.after.rest) first last i (give_names h)
-    (between ws span.from h.before.front first last h.after.rest (length ws) h.before.before h.after.after) low high
+    (between ws bounds.from h.before.front first last h.after.rest (length ws) h.before.before h.after.after) low high
 
-pub give_merged : {span : Span} {ws : List ℕ} {aside : Aside} {at size first last : ℕ} (h : Around span ws aside at size first last) → gaps_touch span.piece false (h.before.front ++ ((gap first last ∷ []) ++ h.after.rest)) ≡ false
-give_merged {span} {ws} {aside} {at} {size} {first} {last} h =
-    let s = span.piece in
+pub give_merged : {bounds : Bounds} {ws : List ℕ} {aside : Aside} {at size first last : ℕ} (h : Around bounds ws aside at size first last) → gaps_touch bounds.piece false (h.before.front ++ ((gap first last ∷ []) ++ h.after.rest)) ≡ false
+give_merged {bounds} {ws} {aside} {at} {size} {first} {last} h =
+    let s = bounds.piece in
     let front = h.before.front in
     let whole : gaps_touch s false (front ++ (h.before.tail ++ (block at size ∷ (h.after.tail ++ h.after.rest)))) ≡ false = sym (ap (gaps_touch s false) (around_tiles h)) ∙ h.ready.formatted.merged in
     merged_join s front (gap first last ∷ h.after.rest) (merged_front s front (h.before.tail ++ (block at size ∷ (h.after.tail ++ h.after.rest))) whole)
     (merged_begin s (ends_in_gap false front) (gap first last) h.after.rest refl h.before.ends_live h.after.begins_live)
 
 -- each tile lies in one segment
-pub give_whole : {span : Span} {ws : List ℕ} {aside : Aside} {at size first last : ℕ} (h : Around span ws aside at size first last) → are_whole span.piece (h.before.front ++ ((gap first last ∷ []) ++ h.after.rest)) ≡ true
-give_whole {span} {ws} {aside} {at} {size} {first} {last} h =
-    let s = span.piece in
+pub give_whole : {bounds : Bounds} {ws : List ℕ} {aside : Aside} {at size first last : ℕ} (h : Around bounds ws aside at size first last) → are_whole bounds.piece (h.before.front ++ ((gap first last ∷ []) ++ h.after.rest)) ≡ true
+give_whole {bounds} {ws} {aside} {at} {size} {first} {last} h =
+    let s = bounds.piece in
     let o = around_order h in
     let front = h.before.front in
     let all : are_whole s (front ++ (h.before.tail ++ (block at size ∷ (h.after.tail ++ h.after.rest)))) ≡ true = sym (ap (are_whole s) (around_tiles h)) ∙ h.ready.formatted.whole in
@@ -202,15 +203,15 @@ give_whole {span} {ws} {aside} {at} {size} {first} {last} h =
     ] in
     whole_append s front (gap first last ∷ h.after.rest) parts.0 (whole_cons s (gap first last) h.after.rest both rest)
 
-pub give_ready : {span : Span} {ws : List ℕ} {aside : Aside} {at size first last : ℕ} (h : Around span ws aside at size first last) (next : ℕ) → IsFilled span (merged_words ws first last next) aside
-give_ready {span} {ws} {aside} {at} {size} {first} {last} h next =
-    ready_from span (merged_words ws first last next) aside (h.ready.end ∙ sym (merged_count ws first last next)) (change_formatted (give_change h next) span.piece h.ready.formatted.even (give_merged h) (give_whole h))
+pub give_ready : {bounds : Bounds} {ws : List ℕ} {aside : Aside} {at size first last : ℕ} (h : Around bounds ws aside at size first last) (next : ℕ) → IsFilled bounds (merged_words ws first last next) aside
+give_ready {bounds} {ws} {aside} {at} {size} {first} {last} h next =
+    ready_from bounds (merged_words ws first last next) aside (h.ready.end ∙ sym (merged_count ws first last next)) (change_formatted (give_change h next) bounds.piece h.ready.formatted.even (give_merged h) (give_whole h))
     (subst (λ es. NameLive (merged_words ws first last next) aside.windows es) (sym (change_blocks (give_change h next))) (change_names aside.windows (give_change h next) (give_names h)))
 
-pub around_seen : (span : Span) (ws : List ℕ) (aside : Aside) (at size first last : ℕ) (now later : List ℕ) (is_gap : Bool) → IsFilled span ws aside → IsLive (live_blocks ws span.from) at → is_named aside.windows at ≡ false → IsFreeBefore ws span.from span.piece first at → now ≡ ws → tiles now at ≡ record { place = at; size = size; live = not is_gap } ∷ tiles now (at + size) → 2 ≤ size → later ≡ ws → IsFreeAfter later span.piece (at + size) last → Around span ws aside at size first last
-around_seen span ws aside at size first last now later is_gap ready live unnamed before same is some same_later after =
+pub around_seen : (bounds : Bounds) (ws : List ℕ) (aside : Aside) (at size first last : ℕ) (now later : List ℕ) (is_gap : Bool) → IsFilled bounds ws aside → IsLive (live_blocks ws bounds.from) at → is_named aside.windows at ≡ false → IsFreeBefore ws bounds.from bounds.piece first at → now ≡ ws → tiles now at ≡ record { place = at; size = size; live = not is_gap } ∷ tiles now (at + size) → 2 ≤ size → later ≡ ws → IsFreeAfter later bounds.piece (at + size) last → Around bounds ws aside at size first last
+around_seen bounds ws aside at size first last now later is_gap ready live unnamed before same is some same_later after =
     let seen = tile_seen ws now at size is_gap is_gap same refl is in
-    let block : is_gap ≡ false = elim (live_ahead ws span.from at at (record { place = at; size = size; live = not is_gap }) (tiles ws (at + size)) (before_edge ws span.from first at before) seen live (omega arith)) [
+    let block : is_gap ≡ false = elim (live_ahead ws bounds.from at at (record { place = at; size = size; live = not is_gap }) (tiles ws (at + size)) (before_edge ws bounds.from first at before) seen live (omega arith)) [
       | inl here ↦ not-true is_gap here.1
       | inr past ↦ absurd (omega arith)
     ] in
@@ -218,6 +219,6 @@ around_seen span ws aside at size first last now later is_gap ready live unnamed
       ready = ready;
       before = before;
       is = tile_seen ws now at size is_gap false same block is;
-      after = subst (λ xs. IsFreeAfter xs span.piece (at + size) last) same_later after;
+      after = subst (λ xs. IsFreeAfter xs bounds.piece (at + size) last) same_later after;
       unnamed = unnamed;
     }

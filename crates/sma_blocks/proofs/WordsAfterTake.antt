@@ -9,7 +9,8 @@ use Rattle.seg_words.specs.Blocks.{MayStore}
 use Rattle.seg_words.specs.Gaps.{fits, first_fit, is_whole}
 use Rattle.seg_words.specs.Segments.{whole_part}
 use Rattle.sma_blocks.proofs.WholeTiles.{whole_split, whole_head, whole_append, whole_cons}
-use Rattle.sma_blocks.proofs.Spans.{Span, IsFilled}
+use Rattle.sma_blocks.specs.declared.bounds.Bounds.{Bounds}
+use Rattle.sma_blocks.proofs.FilledWords.{IsFilled}
 use Rattle.sma_blocks.specs.Tiles.{Tile, tiles, Fill, gaps_touch, are_whole}
 use Rattle.sma_blocks.specs.Live.{lives, live_blocks, with_block, SameBlocks}
 use Rattle.sma_blocks.specs.Ready.{NameLive}
@@ -109,9 +110,9 @@ cut_fill ws at size n inside some enough even even_size =
     )
 
 -- a gap at an edge, and the tiles round it
-pub record Room (span : Span) (ws : List ℕ) (aside : Aside) (at size n : ℕ) : Type 0 where
-  pub ready : IsFilled span ws aside
-  pub edge : IsEdge ws span.from at
+pub record Room (bounds : Bounds) (ws : List ℕ) (aside : Aside) (at size n : ℕ) : Type 0 where
+  pub ready : IsFilled bounds ws aside
+  pub edge : IsEdge ws bounds.from at
   pub is : tiles ws at ≡ record { place = at; size = size; live = false } ∷ tiles ws (at + size)
   pub even : n % 2 ≡ 0
   pub some : 2 ≤ n
@@ -120,14 +121,14 @@ pub record Room (span : Span) (ws : List ℕ) (aside : Aside) (at size n : ℕ) 
 abbrev gap : ℕ → ℕ → Tile
 gap at size = record { place = at; size = size; live = false }
 
-pub room_fill : {span : Span} {ws : List ℕ} {aside : Aside} {at size n : ℕ} → Room span ws aside at size n → Fill ws at (gap at size ∷ tiles ws (at + size)) (length ws)
-room_fill {span} {ws} {aside} {at} {size} {n} h = subst (λ ps. Fill ws at ps (length ws)) h.is h.edge.after
+pub room_fill : {bounds : Bounds} {ws : List ℕ} {aside : Aside} {at size n : ℕ} → Room bounds ws aside at size n → Fill ws at (gap at size ∷ tiles ws (at + size)) (length ws)
+room_fill {bounds} {ws} {aside} {at} {size} {n} h = subst (λ ps. Fill ws at ps (length ws)) h.is h.edge.after
 
-pub room_blocks : {span : Span} {ws : List ℕ} {aside : Aside} {at size n : ℕ} (h : Room span ws aside at size n) → live_blocks ws span.from ≡ lives h.edge.passed ++ lives (tiles ws (at + size))
-room_blocks {span} {ws} {aside} {at} {size} {n} h = blocks_at ws span.from at h.edge ∙ ap (λ ps. lives h.edge.passed ++ lives ps) h.is
+pub room_blocks : {bounds : Bounds} {ws : List ℕ} {aside : Aside} {at size n : ℕ} (h : Room bounds ws aside at size n) → live_blocks ws bounds.from ≡ lives h.edge.passed ++ lives (tiles ws (at + size))
+room_blocks {bounds} {ws} {aside} {at} {size} {n} h = blocks_at ws bounds.from at h.edge ∙ ap (λ ps. lives h.edge.passed ++ lives ps) h.is
 
-pub take_change : {span : Span} {ws : List ℕ} {aside : Aside} {at size n : ℕ} (h : Room span ws aside at size n) → Change ws (cut_words ws at size n) span.from at (at + size) h.edge.passed (taken at n ∷ left_over at size n) (tiles ws (at + size))
-take_change {span} {ws} {aside} {at} {size} {n} h =
+pub take_change : {bounds : Bounds} {ws : List ℕ} {aside : Aside} {at size n : ℕ} (h : Room bounds ws aside at size n) → Change ws (cut_words ws at size n) bounds.from at (at + size) h.edge.passed (taken at n ∷ left_over at size n) (tiles ws (at + size))
+take_change {bounds} {ws} {aside} {at} {size} {n} h =
     let filled = room_fill h in
     let inside : at + size ≤ length ws = Fill-le ws (at + size) (tiles ws (at + size)) (length ws) filled.1 in
     record {
@@ -142,11 +143,11 @@ take_change {span} {ws} {aside} {at} {size} {n} h =
     }
 
 -- a word of the gap may be stored
-pub room_apart : {span : Span} {ws : List ℕ} {aside : Aside} {at size n : ℕ} → Room span ws aside at size n → (i : ℕ) → at ≤ i → i < at + size → MayStore ws aside.windows i
-room_apart {span} {ws} {aside} {at} {size} {n} h i low high =
+pub room_apart : {bounds : Bounds} {ws : List ℕ} {aside : Aside} {at size n : ℕ} → Room bounds ws aside at size n → (i : ℕ) → at ≤ i → i < at + size → MayStore ws aside.windows i
+room_apart {bounds} {ws} {aside} {at} {size} {n} h i low high =
     let names : NameLive ws aside.windows (lives h.edge.passed ++ lives (tiles ws (at + size))) = subst (λ es. NameLive ws aside.windows es) (room_blocks h) h.ready.windows in
     may_store ws aside.windows (lives h.edge.passed ++ lives (tiles ws (at + size))) at (at + size) i names
-    (between ws span.from h.edge.passed at (at + size) (tiles ws (at + size)) (length ws) h.edge.before (room_fill h).1) low high
+    (between ws bounds.from h.edge.passed at (at + size) (tiles ws (at + size)) (length ws) h.edge.before (room_fill h).1) low high
 
 pub lives_left : (at size n : ℕ) → lives (left_over at size n) ≡ []
 lives_left at size n = go (ltb n size)
@@ -155,44 +156,44 @@ lives_left at size n = go (ltb n size)
     go true = refl
     go false = refl
 
-pub take_blocks : {span : Span} {ws : List ℕ} {aside : Aside} {at size n : ℕ} (h : Room span ws aside at size n) → live_blocks (cut_words ws at size n) span.from ≡ lives h.edge.passed ++ record { place = at; size = n } ∷ lives (tiles ws (at + size))
-take_blocks {span} {ws} {aside} {at} {size} {n} h =
+pub take_blocks : {bounds : Bounds} {ws : List ℕ} {aside : Aside} {at size n : ℕ} (h : Room bounds ws aside at size n) → live_blocks (cut_words ws at size n) bounds.from ≡ lives h.edge.passed ++ record { place = at; size = n } ∷ lives (tiles ws (at + size))
+take_blocks {bounds} {ws} {aside} {at} {size} {n} h =
     change_blocks (take_change h) ∙ ap (λ es. lives h.edge.passed ++ (record { place = at; size = n } ∷ (es ++ lives (tiles ws (at + size))))) (lives_left at size n)
 
 -- the live blocks gain the one that is taken
-pub take_more : {span : Span} {ws : List ℕ} {aside : Aside} {at size n : ℕ} (h : Room span ws aside at size n) → live_blocks (cut_words ws at size n) span.from ≡ with_block (record { place = at; size = n }) (live_blocks ws span.from)
-take_more {span} {ws} {aside} {at} {size} {n} h =
+pub take_more : {bounds : Bounds} {ws : List ℕ} {aside : Aside} {at size n : ℕ} (h : Room bounds ws aside at size n) → live_blocks (cut_words ws at size n) bounds.from ≡ with_block (record { place = at; size = n }) (live_blocks ws bounds.from)
+take_more {bounds} {ws} {aside} {at} {size} {n} h =
     let filled = room_fill h in
     let e : Extent = record { place = at; size = n } in
     let put : with_block e (lives h.edge.passed ++ lives (tiles ws (at + size))) ≡ lives h.edge.passed ++ e ∷ lives (tiles ws (at + size)) =
-    with_block_between ws span.from h.edge.passed at (at + size) (tiles ws (at + size)) (length ws) e h.edge.before filled.1 (omega arith) (omega (arith, filled.0.enough)) in
+    with_block_between ws bounds.from h.edge.passed at (at + size) (tiles ws (at + size)) (length ws) e h.edge.before filled.1 (omega arith) (omega (arith, filled.0.enough)) in
     take_blocks h ∙ sym put ∙ ap (with_block e) (sym (room_blocks h))
 
-pub take_same : {span : Span} {ws : List ℕ} {aside : Aside} {at size n : ℕ} (h : Room span ws aside at size n) → SameBlocks ws (cut_words ws at size n) span.from (live_blocks ws span.from)
-take_same {span} {ws} {aside} {at} {size} {n} h =
-    subst (λ es. SameBlocks ws (cut_words ws at size n) span.from es) (sym (room_blocks h)) (change_same (take_change h))
+pub take_same : {bounds : Bounds} {ws : List ℕ} {aside : Aside} {at size n : ℕ} (h : Room bounds ws aside at size n) → SameBlocks ws (cut_words ws at size n) bounds.from (live_blocks ws bounds.from)
+take_same {bounds} {ws} {aside} {at} {size} {n} h =
+    subst (λ es. SameBlocks ws (cut_words ws at size n) bounds.from es) (sym (room_blocks h)) (change_same (take_change h))
 
-pub take_merged : {span : Span} {ws : List ℕ} {aside : Aside} {at size n : ℕ} (h : Room span ws aside at size n) → gaps_touch span.piece false (h.edge.passed ++ ((taken at n ∷ left_over at size n) ++ tiles ws (at + size))) ≡ false
-take_merged {span} {ws} {aside} {at} {size} {n} h =
-    let s = span.piece in
+pub take_merged : {bounds : Bounds} {ws : List ℕ} {aside : Aside} {at size n : ℕ} (h : Room bounds ws aside at size n) → gaps_touch bounds.piece false (h.edge.passed ++ ((taken at n ∷ left_over at size n) ++ tiles ws (at + size))) ≡ false
+take_merged {bounds} {ws} {aside} {at} {size} {n} h =
+    let s = bounds.piece in
     let rest = tiles ws (at + size) in
     let passed = h.edge.passed in
-    let whole : gaps_touch s false (passed ++ (gap at size ∷ rest)) ≡ false = sym (ap (gaps_touch s false) (edge_whole ws span.from at h.edge ∙ ap (λ ps. passed ++ ps) h.is)) ∙ h.ready.formatted.merged in
+    let whole : gaps_touch s false (passed ++ (gap at size ∷ rest)) ≡ false = sym (ap (gaps_touch s false) (edge_whole ws bounds.from at h.edge ∙ ap (λ ps. passed ++ ps) h.is)) ∙ h.ready.formatted.merged in
     let parts = merged_gap s (ends_in_gap false passed) (gap at size) rest refl (merged_back s passed (gap at size ∷ rest) whole) in
     let live : gaps_touch s false (left_over at size n ++ rest) ≡ false = go (ltb n size) parts.1 in
     merged_join s passed ((taken at n ∷ left_over at size n) ++ rest) (merged_front s passed (gap at size ∷ rest) whole) (merged_block s (ends_in_gap false passed) (taken at n) (left_over at size n ++ rest) refl live)
   where
-    go : (b : Bool) → gaps_touch span.piece true (tiles ws (at + size)) ≡ false → gaps_touch span.piece false (cond b (record { place = at + n; size = size - n; live = false } ∷ []) [] ++ tiles ws (at + size)) ≡ false
+    go : (b : Bool) → gaps_touch bounds.piece true (tiles ws (at + size)) ≡ false → gaps_touch bounds.piece false (cond b (record { place = at + n; size = size - n; live = false } ∷ []) [] ++ tiles ws (at + size)) ≡ false
     go true m = m
-    go false m = merged_after span.piece true (tiles ws (at + size)) m
+    go false m = merged_after bounds.piece true (tiles ws (at + size)) m
 
 -- each tile lies in one segment
-pub take_whole : {span : Span} {ws : List ℕ} {aside : Aside} {at size n : ℕ} (h : Room span ws aside at size n) → are_whole span.piece (h.edge.passed ++ ((taken at n ∷ left_over at size n) ++ tiles ws (at + size))) ≡ true
-take_whole {span} {ws} {aside} {at} {size} {n} h =
-    let s = span.piece in
+pub take_whole : {bounds : Bounds} {ws : List ℕ} {aside : Aside} {at size n : ℕ} (h : Room bounds ws aside at size n) → are_whole bounds.piece (h.edge.passed ++ ((taken at n ∷ left_over at size n) ++ tiles ws (at + size))) ≡ true
+take_whole {bounds} {ws} {aside} {at} {size} {n} h =
+    let s = bounds.piece in
     let rest = tiles ws (at + size) in
     let passed = h.edge.passed in
-    let all : are_whole s (passed ++ (gap at size ∷ rest)) ≡ true = sym (ap (are_whole s) (edge_whole ws span.from at h.edge ∙ ap (λ ps. passed ++ ps) h.is)) ∙ h.ready.formatted.whole in
+    let all : are_whole s (passed ++ (gap at size ∷ rest)) ≡ true = sym (ap (are_whole s) (edge_whole ws bounds.from at h.edge ∙ ap (λ ps. passed ++ ps) h.is)) ∙ h.ready.formatted.whole in
     let parts = whole_split s passed (gap at size ∷ rest) all in
     let two = whole_head s (gap at size) rest parts.1 in
     let some = h.some in
@@ -207,16 +208,16 @@ take_whole {span} {ws} {aside} {at} {size} {n} h =
     ] in
     whole_append s passed ((taken at n ∷ left_over at size n) ++ rest) parts.0 (whole_cons s (taken at n) (left_over at size n ++ rest) here (whole_append s (left_over at size n) rest left two.1))
 
-pub take_ready : {span : Span} {ws : List ℕ} {aside : Aside} {at size n : ℕ} (h : Room span ws aside at size n) → IsFilled span (cut_words ws at size n) aside
-take_ready {span} {ws} {aside} {at} {size} {n} h =
+pub take_ready : {bounds : Bounds} {ws : List ℕ} {aside : Aside} {at size n : ℕ} (h : Room bounds ws aside at size n) → IsFilled bounds (cut_words ws at size n) aside
+take_ready {bounds} {ws} {aside} {at} {size} {n} h =
     let names : NameLive ws aside.windows (lives h.edge.passed ++ lives (tiles ws (at + size))) = subst (λ es. NameLive ws aside.windows es) (room_blocks h) h.ready.windows in
     let kept = change_names aside.windows (take_change h) names in
     let more = names_more (cut_words ws at size n) aside.windows (lives h.edge.passed) (record { place = at; size = n }) (lives (tiles ws (at + size))) kept in
-    ready_from span (cut_words ws at size n) aside (h.ready.end ∙ sym (cut_count ws at size n)) (change_formatted (take_change h) span.piece h.ready.formatted.even (take_merged h) (take_whole h))
+    ready_from bounds (cut_words ws at size n) aside (h.ready.end ∙ sym (cut_count ws at size n)) (change_formatted (take_change h) bounds.piece h.ready.formatted.even (take_merged h) (take_whole h))
     (subst (λ es. NameLive (cut_words ws at size n) aside.windows es) (sym (take_blocks h)) more)
 
 -- the place is the least one
-pub take_place : FitSome → FitWhole → {span : Span} {ws : List ℕ} {aside : Aside} {at size n : ℕ} → Room span ws aside at size n → ((b : ℕ) → b < at → fits span.from span.to span.piece n (live_blocks ws span.from) b ≡ false) → first_fit span.from span.to span.piece n (live_blocks ws span.from) ≡ Some at
-take_place some fit {span} {ws} {aside} {at} {size} {n} h none_below =
-    some span.from span.to span.piece n at (live_blocks ws span.from)
-    (fits_in_gap fit ws span.from span.to span.piece n at size (tiles ws (at + size)) h.ready.formatted h.ready.end h.edge h.is (let more = h.some in omega arith) h.enough) none_below
+pub take_place : FitSome → FitWhole → {bounds : Bounds} {ws : List ℕ} {aside : Aside} {at size n : ℕ} → Room bounds ws aside at size n → ((b : ℕ) → b < at → fits bounds.from bounds.to bounds.piece n (live_blocks ws bounds.from) b ≡ false) → first_fit bounds.from bounds.to bounds.piece n (live_blocks ws bounds.from) ≡ Some at
+take_place some fit {bounds} {ws} {aside} {at} {size} {n} h none_below =
+    some bounds.from bounds.to bounds.piece n at (live_blocks ws bounds.from)
+    (fits_in_gap fit ws bounds.from bounds.to bounds.piece n at size (tiles ws (at + size)) h.ready.formatted h.ready.end h.edge h.is (let more = h.some in omega arith) h.enough) none_below

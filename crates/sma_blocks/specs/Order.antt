@@ -36,15 +36,15 @@ lives_stand ws a (p ∷ ps) b h = go p.live refl (lives_stand ws (a + p.size) ps
 
 -- so they do where the words are ready
 pub ready_blocks : {sma : Sma} {words : List ℕ} {aside : Aside} → IsReady sma words aside
-    → AreBlocks words sma.from (live_blocks words sma.from) sma.to
+    → AreBlocks words sma.bounds.from (live_blocks words sma.bounds.from) sma.bounds.to
 ready_blocks {sma} {words} {aside} ready =
     let full = ready.formatted.full in
-    let stand = lives_stand words sma.from (tiles words sma.from) (length words) full in
-    let blocks = live_blocks words sma.from in
-    subst (λ (n : ℕ). AreBlocks words sma.from blocks n) (sym ready.end) stand
+    let stand = lives_stand words sma.bounds.from (tiles words sma.bounds.from) (length words) full in
+    let blocks = live_blocks words sma.bounds.from in
+    subst (λ (n : ℕ). AreBlocks words sma.bounds.from blocks n) (sym ready.end) stand
 
 pub ready_renamed : {sma : Sma} {words : List ℕ} {old new : Aside} → IsReady sma words old
-    → NameLive words new.windows (live_blocks words sma.from) → IsReady sma words new
+    → NameLive words new.windows (live_blocks words sma.bounds.from) → IsReady sma words new
 ready_renamed h names =
     record {
       end = h.end;

@@ -7,9 +7,9 @@ ghost use Rattle.std.specs.Prelude.{nat_lt, if◌then◌else◌, ◌⊎◌};
 ghost use Rattle.seg_words.specs.Kept.{Kept, KeptBeside};
 ghost use Rattle.seg_words.specs.Windows.{has, is_named};
 ghost use Rattle.seg_words.specs.Blocks.{IsTold, MayStore};
-ghost use Rattle.seg_words.specs.Gaps.{first_fit, free_runs};
+ghost use Rattle.seg_words.specs.Gaps.{first_fit};
 ghost use Rattle.sma_blocks.specs.Live.{IsLive, SameBlocks, live_blocks, with_block, without_block};
-ghost use Rattle.sma_blocks.specs.Live.{kept_blocks, largest_of, lives};
+ghost use Rattle.sma_blocks.specs.Live.{kept_blocks, largest_of, lives, free_runs_in};
 ghost use Rattle.sma_blocks.specs.Tiles.{tiles};
 ghost use Rattle.sma_blocks.specs.LaidGaps.{IsLaid};
 ghost use Rattle.sma_blocks.specs.Chain.{IsChain};
@@ -20,6 +20,7 @@ ghost use Rattle.sma_blocks.specs.Index.{IsShort, IsJoined};
 
 mod near;
 
+use crate::bounds::Bounds;
 use crate::stores::{cut, link_new, link_of, merge, next_of, relink, rest_of};
 use max_tree::{MaxRow, PairRow};
 use seg_words::{Segment, begins_segment, fit_laws, segment_of};
@@ -38,12 +39,8 @@ struct Part {
 /// finds it, so that no call walks; the index is made from the row that `format` is handed, and no
 /// call takes memory.
 pub struct Sma {
-    /// The place of the first block or gap.
-    pub from: u32,
-    /// The end of the last one, which is the number of words.
-    pub to: u32,
-    /// The number of words of a segment: no block and no gap crosses a multiple of it.
-    pub piece: u32,
+    /// The bounds of these words. No call changes them.
+    pub bounds: Bounds,
     // The place of the first gap, or 0.
     head: u32,
     // How many words all gaps have.
@@ -55,9 +52,7 @@ pub struct Sma {
 impl Drop for Sma {
     fn drop(self) {
         let Sma {
-            from: _,
-            to: _,
-            piece: _,
+            bounds: _,
             head: _,
             free: _,
             sizes: _,
@@ -78,20 +73,18 @@ impl Sma {
         requires closed { (at : ℕ) → is_named (S.aside seg.old).windows at ≡ false }
         requires enough { length (S.words seg.old) ≤ 4 * length gaps }
         requires zeros { (i : ℕ) → slice_index gaps i ≡ 0 }
-        ensures from { result.from ≡ from }
-        ensures piece { result.piece ≡ piece }
+        ensures from { result.bounds.from ≡ from }
+        ensures piece { result.bounds.piece ≡ piece }
         ensures ready { IsReady result (S.words seg.new) (S.aside seg.new) }
         ensures empty { live_blocks (S.words seg.new) from ≡ [] }
         ensures chain { IsChain (S.words seg.new) result.head
-            (free_runs from result.to result.piece []) }
+            (free_runs_in result.bounds (S.words seg.new)) }
         ensures before { SameBlocks (S.words seg.old) (S.words seg.new) from [] }
         ensures beside { KeptBeside S.WordsIn seg.old seg.new }
     {
         let to = seg.len();
         let mut sma = Sma {
-            from,
-            to,
-            piece: piece,
+            bounds: Bounds { from, to, piece },
             head: 0,
             free: 0,
             sizes: PairRow::new(gaps),
@@ -105,23 +98,20 @@ impl Sma {
     pub fn take<S: Segment>(&mut self, seg: &mut S, n: u32) -> Option<u32>
         requires size { (n % 2 ≡ 0) × (2 ≤ n) }
         requires ready { IsReady self.old (S.words seg.old) (S.aside seg.old) }
-        ensures place { result ≡ first_fit self.old.from self.old.to self.old.piece n
-            (live_blocks (S.words seg.old) self.old.from) }
-        ensures taken { IfSome result (λ at. live_blocks (S.words seg.new) self.old.from
+        ensures place { result ≡ first_fit self.old.bounds.from self.old.bounds.to
+            self.old.bounds.piece n (live_blocks (S.words seg.old) self.old.bounds.from) }
+        ensures taken { IfSome result (λ at. live_blocks (S.words seg.new) self.old.bounds.from
             ≡ with_block (record { place = at; size = n }) (live_blocks
-            (S.words seg.old) self.old.from)) }
+            (S.words seg.old) self.old.bounds.from)) }
         ensures word { IfSome result (λ at. slice_index (S.words seg.new) at ≡ n) }
-        ensures others { SameBlocks (S.words seg.old) (S.words seg.new) self.old.from (live_blocks
-            (S.words seg.old) self.old.from) }
+        ensures others { SameBlocks (S.words seg.old) (S.words seg.new) self.old.bounds.from
+            (live_blocks (S.words seg.old) self.old.bounds.from) }
         ensures none { IfNone result (S.words seg.new ≡ S.words seg.old) }
         ensures same { IfNone result (self.new ≡ self.old) }
-        ensures from { self.new.from ≡ self.old.from }
-        ensures to { self.new.to ≡ self.old.to }
-        ensures piece { self.new.piece ≡ self.old.piece }
+        ensures bounds { self.new.bounds ≡ self.old.bounds }
         ensures ready { IsReady self.new (S.words seg.new) (S.aside seg.new) }
         ensures chain { IsChain (S.words seg.new) self.new.head
-            (free_runs self.new.from self.new.to self.new.piece (live_blocks
-            (S.words seg.new) self.new.from)) }
+            (free_runs_in self.new.bounds (S.words seg.new)) }
         ensures beside { KeptBeside S.WordsIn seg.old seg.new }
     {
         fit_laws();
@@ -141,20 +131,17 @@ impl Sma {
     /// segment.
     /// No window may name the block.
     pub fn give<S: Segment>(&mut self, seg: &mut S, at: u32)
-        requires live { IsLive (live_blocks (S.words seg.old) self.old.from) at }
+        requires live { IsLive (live_blocks (S.words seg.old) self.old.bounds.from) at }
         requires unnamed { is_named (S.aside seg.old).windows at ≡ false }
         requires ready { IsReady self.old (S.words seg.old) (S.aside seg.old) }
-        ensures given { live_blocks (S.words seg.new) self.old.from ≡ without_block at
-            (live_blocks (S.words seg.old) self.old.from) }
-        ensures others { SameBlocks (S.words seg.old) (S.words seg.new) self.old.from
-            (without_block at (live_blocks (S.words seg.old) self.old.from)) }
-        ensures from { self.new.from ≡ self.old.from }
-        ensures to { self.new.to ≡ self.old.to }
-        ensures piece { self.new.piece ≡ self.old.piece }
+        ensures given { live_blocks (S.words seg.new) self.old.bounds.from ≡ without_block at
+            (live_blocks (S.words seg.old) self.old.bounds.from) }
+        ensures others { SameBlocks (S.words seg.old) (S.words seg.new) self.old.bounds.from
+            (without_block at (live_blocks (S.words seg.old) self.old.bounds.from)) }
+        ensures bounds { self.new.bounds ≡ self.old.bounds }
         ensures ready { IsReady self.new (S.words seg.new) (S.aside seg.new) }
         ensures chain { IsChain (S.words seg.new) self.new.head
-            (free_runs self.new.from self.new.to self.new.piece (live_blocks
-            (S.words seg.new) self.new.from)) }
+            (free_runs_in self.new.bounds (S.words seg.new)) }
         ensures beside { KeptBeside S.WordsIn seg.old seg.new }
     {
         // The words of the block first: they are the farthest from the processor, and come while
@@ -175,30 +162,27 @@ impl Sma {
     /// window names one of these blocks.
     pub fn keep<S: Segment>(&mut self, seg: &mut S, places: &[u32])
         requires live { (i : ℕ) → i < length places.now → IsLive (live_blocks
-            (S.words seg.old) self.old.from) (slice_index places.now i) }
+            (S.words seg.old) self.old.bounds.from) (slice_index places.now i) }
         requires rising { (i : ℕ) → i + 1 < length places.now
             → slice_index places.now i < slice_index places.now (i + 1) }
         requires named { (at : ℕ) → is_named (S.aside seg.old).windows at ≡ true
             → has at places.now ≡ true }
         requires ready { IsReady self.old (S.words seg.old) (S.aside seg.old) }
-        ensures left { live_blocks (S.words seg.new) self.old.from ≡ kept_blocks places.now
-            (live_blocks (S.words seg.old) self.old.from) }
-        ensures others { SameBlocks (S.words seg.old) (S.words seg.new) self.old.from
-            (kept_blocks places.now (live_blocks (S.words seg.old) self.old.from)) }
-        ensures from { self.new.from ≡ self.old.from }
-        ensures to { self.new.to ≡ self.old.to }
-        ensures piece { self.new.piece ≡ self.old.piece }
+        ensures left { live_blocks (S.words seg.new) self.old.bounds.from ≡ kept_blocks places.now
+            (live_blocks (S.words seg.old) self.old.bounds.from) }
+        ensures others { SameBlocks (S.words seg.old) (S.words seg.new) self.old.bounds.from
+            (kept_blocks places.now (live_blocks (S.words seg.old) self.old.bounds.from)) }
+        ensures bounds { self.new.bounds ≡ self.old.bounds }
         ensures ready { IsReady self.new (S.words seg.new) (S.aside seg.new) }
         ensures chain { IsChain (S.words seg.new) self.new.head
-            (free_runs self.new.from self.new.to self.new.piece (live_blocks
-            (S.words seg.new) self.new.from)) }
+            (free_runs_in self.new.bounds (S.words seg.new)) }
         ensures beside { KeptBeside S.WordsIn seg.old seg.new }
     {
         self.sizes.clear();
         self.free = 0;
         self.head = 0;
         // From the last block on, so that the link of each gap is known when it is made.
-        let mut end = self.to;
+        let mut end = self.bounds.to;
         let mut i = places.len();
         while i > 0 {
             i -= 1;
@@ -207,14 +191,14 @@ impl Sma {
             self.lay(seg, at + size, end);
             end = at;
         }
-        self.lay(seg, self.from, end);
+        self.lay(seg, self.bounds.from, end);
     }
 
     /// How many words are free: the words of all gaps.
     pub fn free_words<S: Segment>(&self, seg: &mut S) -> u32
         requires { IsReady self.now (S.words seg.old) (S.aside seg.old) }
-        ensures value { result ≡ sum_by (λ run. run.size) (free_runs self.now.from self.now.to
-            self.now.piece (live_blocks (S.words seg.old) self.now.from)) }
+        ensures value { result ≡ sum_by (λ run. run.size)
+            (free_runs_in self.now.bounds (S.words seg.old)) }
         ensures kept { Kept S.WordsIn seg.old seg.new }
     {
         self.free
@@ -223,8 +207,7 @@ impl Sma {
     /// The size of the largest gap, in words; 0 where there is none.
     pub fn largest<S: Segment>(&self, seg: &mut S) -> u32
         requires { IsReady self.now (S.words seg.old) (S.aside seg.old) }
-        ensures value { result ≡ largest_of (free_runs self.now.from self.now.to self.now.piece
-            (live_blocks (S.words seg.old) self.now.from)) }
+        ensures value { result ≡ largest_of (free_runs_in self.now.bounds (S.words seg.old)) }
         ensures kept { Kept S.WordsIn seg.old seg.new }
     {
         self.sizes.largest()
@@ -242,11 +225,10 @@ impl Sma {
     pub fn gap_from<S: Segment>(&self, seg: &mut S, at: u32) -> Option<(u32, u32)>
         requires { IsReady self.now (S.words seg.old) (S.aside seg.old) }
         ensures value { result ≡ option_map (λ run. (run.place, run.size)) (find
-            (λ run. nat_le at run.place) (free_runs self.now.from self.now.to self.now.piece
-            (live_blocks (S.words seg.old) self.now.from))) }
+            (λ run. nat_le at run.place) (free_runs_in self.now.bounds (S.words seg.old))) }
         ensures kept { Kept S.WordsIn seg.old seg.new }
     {
-        if self.to <= at || self.to - at < 2 {
+        if self.bounds.to <= at || self.bounds.to - at < 2 {
             return None;
         }
         let index = at as usize / 2 + at as usize % 2;
@@ -262,16 +244,16 @@ impl Sma {
     // Makes gaps of the words from `first` up to `last`, one in each segment, in front of all other
     // gaps. No gap begins at `last`.
     fn lay<S: Segment>(&mut self, seg: &mut S, first: u32, last: u32)
-        requires laid { IsLaid self.old.piece (S.words seg.old) last self.old.sizes
+        requires laid { IsLaid self.old.bounds.piece (S.words seg.old) last self.old.sizes
             self.old.head self.old.free true }
-        requires even { (first % 2 ≡ 0) × (last % 2 ≡ 0) × (self.old.piece % 2 ≡ 0) }
+        requires even { (first % 2 ≡ 0) × (last % 2 ≡ 0) × (self.old.bounds.piece % 2 ≡ 0) }
         requires apart { (i : ℕ) → first ≤ i → i < last → MayStore (S.words seg.old)
             (S.aside seg.old).windows i }
         requires index { length (S.words seg.old) ≤ length self.old.sizes
             + length self.old.sizes }
         requires short { length (S.words seg.old) < 2 ^ 31 }
         requires order { first ≤ last }
-        ensures laid { IsLaid self.old.piece (S.words seg.new) first self.new.sizes
+        ensures laid { IsLaid self.old.bounds.piece (S.words seg.new) first self.new.sizes
             self.new.head self.new.free false }
         ensures lives { lives (tiles (S.words seg.new) first)
             ≡ lives (tiles (S.words seg.old) last) }
@@ -279,14 +261,12 @@ impl Sma {
             ≡ slice_index (S.words seg.old) i }
         ensures length { length (S.words seg.new) ≡ length (S.words seg.old) }
         ensures count { length self.new.sizes ≡ length self.old.sizes }
-        ensures from { self.new.from ≡ self.old.from }
-        ensures to { self.new.to ≡ self.old.to }
-        ensures piece { self.new.piece ≡ self.old.piece }
+        ensures bounds { self.new.bounds ≡ self.old.bounds }
         ensures beside { KeptBeside S.WordsIn seg.old seg.new }
     {
         let mut end = last;
         while first < end {
-            let own = segment_of(self.piece, end - 1);
+            let own = segment_of(self.bounds.piece, end - 1);
             let begin = own.max(first);
             self.lay_one(seg, begin, end);
             end = begin;
@@ -307,9 +287,7 @@ impl Sma {
         ensures words { S.words seg.new ≡ merged_words (S.words seg.old) first last self.old.head }
         ensures sizes { IsJoined self.old.sizes self.new.sizes first last last }
         ensures head { (self.new.head ≡ first) × (self.new.free ≡ self.old.free + (last - first)) }
-        ensures from { self.new.from ≡ self.old.from }
-        ensures to { self.new.to ≡ self.old.to }
-        ensures piece { self.new.piece ≡ self.old.piece }
+        ensures bounds { self.new.bounds ≡ self.old.bounds }
         ensures beside { KeptBeside S.WordsIn seg.old seg.new }
     {
         merge(seg, first, last, u64::from(self.head));
@@ -322,12 +300,13 @@ impl Sma {
     // `before` is the last gap before it. It reads the index alone.
     fn free_before<S: Segment>(&self, seg: &S, before: Option<usize>, at: u32) -> u32
         requires ready { IsReady self.now (S.words seg.now) (S.aside seg.now) }
-        requires live { IsLive (live_blocks (S.words seg.now) self.now.from) at }
+        requires live { IsLive (live_blocks (S.words seg.now) self.now.bounds.from) at }
         requires found { MatchOption before ((k : ℕ) → k < at / 2 → slice_index self.now.sizes k
             ≡ 0) (λ q. (q < at / 2) × (slice_index self.now.sizes q ≢ 0)) }
         requires last { MatchOption before (Unit {0}) (λ q. (k : ℕ) → q < k → k < at / 2
             → slice_index self.now.sizes k ≡ 0) }
-        ensures free { IsFreeBefore (S.words seg.now) self.now.from self.now.piece result at }
+        ensures free { IsFreeBefore (S.words seg.now) self.now.bounds.from self.now.bounds.piece
+            result at }
         ensures place { MatchOption before (result ≡ at) (λ q. (result ≡ at) ⊎ (result ≡ 2 * q)) }
     {
         let Some(index) = before else {
@@ -336,7 +315,7 @@ impl Sma {
         let first = 2 * index as u32;
         if first + self.sizes.get(index) == at {
             // The border takes a division, so it is asked for last.
-            if begins_segment(self.piece, at) {
+            if begins_segment(self.bounds.piece, at) {
                 return at;
             }
             return first;
@@ -347,17 +326,17 @@ impl Sma {
     // The place up to which the words from the edge `end` on are free. It reads the index alone.
     fn free_after<S: Segment>(&self, seg: &S, end: u32) -> u32
         requires ready { IsReady self.now (S.words seg.now) (S.aside seg.now) }
-        requires edge { IsEdge (S.words seg.now) self.now.from end }
-        requires inside { (0 < end) × (end ≤ self.now.to) }
-        ensures free { IsFreeAfter (S.words seg.now) self.now.piece end result }
-        ensures within { result ≤ self.now.to }
+        requires edge { IsEdge (S.words seg.now) self.now.bounds.from end }
+        requires inside { (0 < end) × (end ≤ self.now.bounds.to) }
+        ensures free { IsFreeAfter (S.words seg.now) self.now.bounds.piece end result }
+        ensures within { result ≤ self.now.bounds.to }
     {
-        if end < self.to {
+        if end < self.bounds.to {
             let size = self.sizes.get(end as usize / 2);
             if size == 0 {
                 return end;
             }
-            if begins_segment(self.piece, end) {
+            if begins_segment(self.bounds.piece, end) {
                 return end;
             }
             return end + size;
@@ -368,14 +347,14 @@ impl Sma {
     // The tile that begins at `at`.
     fn part_at<S: Segment>(&self, seg: &mut S, at: u32) -> Part
         requires ready { IsReady self.now (S.words seg.old) (S.aside seg.old) }
-        requires edge { IsEdge (S.words seg.old) self.now.from at }
-        requires inside { at < self.now.to }
+        requires edge { IsEdge (S.words seg.old) self.now.bounds.from at }
+        requires inside { at < self.now.bounds.to }
         ensures is { tiles (S.words seg.old) at
             ≡ record { place = at; size = result.size; live = not result.is_gap } ∷ tiles
             (S.words seg.old) (at + result.size) }
-        ensures edge { IsEdge (S.words seg.old) self.now.from (at + result.size) }
+        ensures edge { IsEdge (S.words seg.old) self.now.bounds.from (at + result.size) }
         ensures size { (2 ≤ result.size) × (result.size % 2 ≡ 0) ×
-            (at + result.size ≤ self.now.to) }
+            (at + result.size ≤ self.now.bounds.to) }
         ensures kept { Kept S.WordsIn seg.old seg.new }
     {
         let word = seg.load(at);

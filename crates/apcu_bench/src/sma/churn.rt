@@ -28,7 +28,8 @@ pub fn time_pairs<S: Segment>(
 ) -> io::Result<[u64; 2]>
     requires ready { IsReady sma.old (S.words seg.old) (S.aside seg.old) }
     requires closed { (at : ℕ) → is_named (S.aside seg.old).windows at ≡ false }
-    requires listed { AreListed (live_blocks (S.words seg.old) sma.old.from) places.old.items }
+    requires listed { AreListed (live_blocks (S.words seg.old) sma.old.bounds.from)
+        places.old.items }
 {
     let mut near = u64::MAX;
     let mut far = u64::MAX;
@@ -52,9 +53,11 @@ fn time_some<S: Segment>(
 ) -> io::Result<u64>
     requires ready { IsReady sma.old (S.words seg.old) (S.aside seg.old) }
     requires closed { (at : ℕ) → is_named (S.aside seg.old).windows at ≡ false }
-    requires listed { AreListed (live_blocks (S.words seg.old) sma.old.from) places.old.items }
+    requires listed { AreListed (live_blocks (S.words seg.old) sma.old.bounds.from)
+        places.old.items }
     ensures ready { IsReady sma.new (S.words seg.new) (S.aside seg.new) }
-    ensures listed { AreListed (live_blocks (S.words seg.new) sma.new.from) places.new.items }
+    ensures listed { AreListed (live_blocks (S.words seg.new) sma.new.bounds.from)
+        places.new.items }
     ensures aside { S.aside seg.new ≡ S.aside seg.old }
 {
     let start = Instant::now(rt)?;
@@ -74,9 +77,11 @@ fn pairs<S: Segment>(
 ) -> u64
     requires ready { IsReady sma.old (S.words seg.old) (S.aside seg.old) }
     requires closed { (at : ℕ) → is_named (S.aside seg.old).windows at ≡ false }
-    requires listed { AreListed (live_blocks (S.words seg.old) sma.old.from) places.old.items }
+    requires listed { AreListed (live_blocks (S.words seg.old) sma.old.bounds.from)
+        places.old.items }
     ensures ready { IsReady sma.new (S.words seg.new) (S.aside seg.new) }
-    ensures listed { AreListed (live_blocks (S.words seg.new) sma.new.from) places.new.items }
+    ensures listed { AreListed (live_blocks (S.words seg.new) sma.new.bounds.from)
+        places.new.items }
     ensures aside { S.aside seg.new ≡ S.aside seg.old }
 {
     let mut state = first;
@@ -100,9 +105,11 @@ fn pair<S: Segment>(sma: &mut Sma, seg: &mut S, places: &mut Vec<u32>, index: us
     requires index { index < length places.old.items }
     requires ready { IsReady sma.old (S.words seg.old) (S.aside seg.old) }
     requires closed { (at : ℕ) → is_named (S.aside seg.old).windows at ≡ false }
-    requires listed { AreListed (live_blocks (S.words seg.old) sma.old.from) places.old.items }
+    requires listed { AreListed (live_blocks (S.words seg.old) sma.old.bounds.from)
+        places.old.items }
     ensures ready { IsReady sma.new (S.words seg.new) (S.aside seg.new) }
-    ensures listed { AreListed (live_blocks (S.words seg.new) sma.new.from) places.new.items }
+    ensures listed { AreListed (live_blocks (S.words seg.new) sma.new.bounds.from)
+        places.new.items }
     ensures aside { S.aside seg.new ≡ S.aside seg.old }
 {
     list_laws();

@@ -31,11 +31,11 @@ fn fill<S: Segment>(
 ) -> Result<(), AllocError>
     requires every { 1 ≤ every }
     requires ready { IsReady sma.old (S.words seg.old) (S.aside seg.old) }
-    requires live { AreLive (live_blocks (S.words seg.old) sma.old.from) places.old.items }
+    requires live { AreLive (live_blocks (S.words seg.old) sma.old.bounds.from) places.old.items }
     ensures ready { IsReady sma.new (S.words seg.new) (S.aside seg.new) }
-    ensures live { OnOk result (AreLive (live_blocks (S.words seg.new) sma.new.from)
+    ensures live { OnOk result (AreLive (live_blocks (S.words seg.new) sma.new.bounds.from)
         places.new.items) }
-    ensures from { sma.new.from ≡ sma.old.from }
+    ensures from { sma.new.bounds.from ≡ sma.old.bounds.from }
     ensures aside { S.aside seg.new ≡ S.aside seg.old }
 {
     for unit in 0..units {
@@ -53,11 +53,11 @@ fn add_unit<S: Segment>(
     is_left: bool,
 ) -> Result<(), AllocError>
     requires ready { IsReady sma.old (S.words seg.old) (S.aside seg.old) }
-    requires live { AreLive (live_blocks (S.words seg.old) sma.old.from) places.old.items }
+    requires live { AreLive (live_blocks (S.words seg.old) sma.old.bounds.from) places.old.items }
     ensures ready { IsReady sma.new (S.words seg.new) (S.aside seg.new) }
-    ensures live { OnOk result (AreLive (live_blocks (S.words seg.new) sma.new.from)
+    ensures live { OnOk result (AreLive (live_blocks (S.words seg.new) sma.new.bounds.from)
         places.new.items) }
-    ensures from { sma.new.from ≡ sma.old.from }
+    ensures from { sma.new.bounds.from ≡ sma.old.bounds.from }
     ensures aside { S.aside seg.new ≡ S.aside seg.old }
 {
     add(sma, seg, places)?;
@@ -69,11 +69,11 @@ fn add_unit<S: Segment>(
 // Takes a block, where one fits, and lists it.
 fn add<S: Segment>(sma: &mut Sma, seg: &mut S, places: &mut Vec<u32>) -> Result<(), AllocError>
     requires ready { IsReady sma.old (S.words seg.old) (S.aside seg.old) }
-    requires live { AreLive (live_blocks (S.words seg.old) sma.old.from) places.old.items }
+    requires live { AreLive (live_blocks (S.words seg.old) sma.old.bounds.from) places.old.items }
     ensures ready { IsReady sma.new (S.words seg.new) (S.aside seg.new) }
-    ensures live { OnOk result (AreLive (live_blocks (S.words seg.new) sma.new.from)
+    ensures live { OnOk result (AreLive (live_blocks (S.words seg.new) sma.new.bounds.from)
         places.new.items) }
-    ensures from { sma.new.from ≡ sma.old.from }
+    ensures from { sma.new.bounds.from ≡ sma.old.bounds.from }
     ensures aside { S.aside seg.new ≡ S.aside seg.old }
 {
     list_laws();
@@ -88,9 +88,9 @@ fn leave<S: Segment>(sma: &mut Sma, seg: &mut S, is_asked: bool)
     requires ready { IsReady sma.old (S.words seg.old) (S.aside seg.old) }
     ensures ready { IsReady sma.new (S.words seg.new) (S.aside seg.new) }
     ensures live { (places : List ℕ)
-        → AreLive (live_blocks (S.words seg.old) sma.old.from) places
-        → AreLive (live_blocks (S.words seg.new) sma.new.from) places }
-    ensures from { sma.new.from ≡ sma.old.from }
+        → AreLive (live_blocks (S.words seg.old) sma.old.bounds.from) places
+        → AreLive (live_blocks (S.words seg.new) sma.new.bounds.from) places }
+    ensures from { sma.new.bounds.from ≡ sma.old.bounds.from }
     ensures aside { S.aside seg.new ≡ S.aside seg.old }
 {
     if !is_asked {
@@ -119,11 +119,11 @@ fn are_rising(places: &[u32]) -> bool
 fn keep_listed<S: Segment>(sma: &mut Sma, seg: &mut S, places: &[u32])
     requires ready { IsReady sma.old (S.words seg.old) (S.aside seg.old) }
     requires closed { (at : ℕ) → is_named (S.aside seg.old).windows at ≡ false }
-    requires live { AreLive (live_blocks (S.words seg.old) sma.old.from) places.now }
+    requires live { AreLive (live_blocks (S.words seg.old) sma.old.bounds.from) places.now }
     requires rising { (i : ℕ) → i + 1 < length places.now
         → slice_index places.now i < slice_index places.now (i + 1) }
     ensures ready { IsReady sma.new (S.words seg.new) (S.aside seg.new) }
-    ensures listed { AreListed (live_blocks (S.words seg.new) sma.new.from) places.now }
+    ensures listed { AreListed (live_blocks (S.words seg.new) sma.new.bounds.from) places.now }
     ensures aside { S.aside seg.new ≡ S.aside seg.old }
 {
     list_laws();
@@ -134,10 +134,10 @@ fn keep_listed<S: Segment>(sma: &mut Sma, seg: &mut S, places: &[u32])
 fn keep_rising<S: Segment>(sma: &mut Sma, seg: &mut S, places: &[u32]) -> bool
     requires ready { IsReady sma.old (S.words seg.old) (S.aside seg.old) }
     requires closed { (at : ℕ) → is_named (S.aside seg.old).windows at ≡ false }
-    requires live { AreLive (live_blocks (S.words seg.old) sma.old.from) places.now }
+    requires live { AreLive (live_blocks (S.words seg.old) sma.old.bounds.from) places.now }
     ensures ready { IsReady sma.new (S.words seg.new) (S.aside seg.new) }
     ensures listed { result ≡ true
-        → AreListed (live_blocks (S.words seg.new) sma.new.from) places.now }
+        → AreListed (live_blocks (S.words seg.new) sma.new.bounds.from) places.now }
     ensures aside { S.aside seg.new ≡ S.aside seg.old }
 {
     if !are_rising(places) {
@@ -157,7 +157,7 @@ pub fn time_keep<S: Segment>(
 ) -> io::Result<u64>
     requires ready { IsReady sma.old (S.words seg.old) (S.aside seg.old) }
     requires closed { (at : ℕ) → is_named (S.aside seg.old).windows at ≡ false }
-    requires live { AreLive (live_blocks (S.words seg.old) sma.old.from) places.now }
+    requires live { AreLive (live_blocks (S.words seg.old) sma.old.bounds.from) places.now }
 {
     if !are_rising(places) {
         return Ok(u64::MAX);
@@ -178,10 +178,10 @@ pub fn lay_out<S: Segment>(
     requires every { 1 ≤ every }
     requires closed { (at : ℕ) → is_named (S.aside seg.old).windows at ≡ false }
     requires ready { IsReady sma.old (S.words seg.old) (S.aside seg.old) }
-    requires live { AreLive (live_blocks (S.words seg.old) sma.old.from) places.old.items }
+    requires live { AreLive (live_blocks (S.words seg.old) sma.old.bounds.from) places.old.items }
     ensures ready { IsReady sma.new (S.words seg.new) (S.aside seg.new) }
     ensures listed { IfOk result (λ done. done ≡ true → AreListed
-        (live_blocks (S.words seg.new) sma.new.from) places.new.items) }
+        (live_blocks (S.words seg.new) sma.new.bounds.from) places.new.items) }
     ensures aside { S.aside seg.new ≡ S.aside seg.old }
 {
     fill(sma, seg, places, units, every)?;

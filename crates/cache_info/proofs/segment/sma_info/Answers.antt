@@ -1,9 +1,8 @@
 use Rattle.std.proofs.Common.{◌++◌, ◌≡◌, ◌∙◌, List, ap, sym, subst}
 use Rattle.std.specs.Prelude.{Bool, sum_by}
 use Rattle.seg_words.specs.declared.gaps.Extent.{Extent}
-use Rattle.seg_words.specs.Gaps.{free_runs}
 use Rattle.sma_blocks.specs.declared.sma.Sma.{Sma}
-use Rattle.sma_blocks.specs.Live.{live_blocks}
+use Rattle.sma_blocks.specs.Live.{free_runs_in}
 use Rattle.std.proofs.lemmas.Result.{IfOk-weaker}
 use Rattle.php_graph.specs.declared.graph.Graph.{Graph}
 use Rattle.apcu_model.specs.Conf.{IsUsable}
@@ -20,7 +19,7 @@ returns-then-limited-clause-info g c =
     let core = c.args.core.now in
     let all = cache_of core in
     let words = g.S.WordsIn.words c.args.seg.now in
-    let runs : Sma → List Extent = λ s. free_runs s.from s.to s.piece (live_blocks words s.from) in
+    let runs : Sma → List Extent = λ s. free_runs_in s.bounds words in
     let same = ap runs (c.sma-sma.ensures ∙ ap (λ (e : EntrySlots). e.sma) c.slots.ensures.value) ∙ gaps_are core.slots words (g.S.WordsIn.aside c.args.seg.now) all (entries core.slots) c.requires.stand.stand c.requires.stand.whole in
     let free = c.free_words-free.ensures.value ∙ ap (sum_by (λ (run : Extent). run.size)) same in
     let told = words_told all c.conf-conf.result.now c.free_words-free.result c.conf-conf.ensures free
@@ -32,11 +31,11 @@ returns-clause-info g c =
     let core = c.args.core.now in
     let all = cache_of core in
     let words = g.S.WordsIn.words c.args.seg.now in
-    let runs : Sma → List Extent = λ s. free_runs s.from s.to s.piece (live_blocks words s.from) in
+    let runs : Sma → List Extent = λ s. free_runs_in s.bounds words in
     let same = ap runs (c.sma-sma.ensures ∙ ap (λ (e : EntrySlots). e.sma) c.slots.ensures.value) ∙ gaps_are core.slots words (g.S.WordsIn.aside c.args.seg.now) all (entries core.slots) c.requires.stand.stand c.requires.stand.whole in
     let free = c.free_words-free.ensures.value ∙ ap (sum_by (λ (run : Extent). run.size)) same in
     let s = c.sma-sma.result.now in
-    let gaps = c.deref.ensures.value ∙ c.in_ok-gaps.ensures.gaps ∙ ap (λ w. free_runs s.from s.to s.piece (live_blocks w s.from)) c.free_words-free.ensures.kept.words ∙ same in
+    let gaps = c.deref.ensures.value ∙ c.in_ok-gaps.ensures.gaps ∙ ap (λ w. free_runs_in s.bounds w) c.free_words-free.ensures.kept.words ∙ same in
     let told = gaps_told all c.conf-conf.result.now c.free_words-free.result c.deref.result.now c.conf-conf.ensures free gaps
     ∙ ap (λ (b : Bool). sma_info_of b all) (sym c.if-limited.false) in
     IfOk-weaker c.tell_gaps.result (λ (x : Graph). x ≡ info_array (info_words c.conf-conf.result.now c.free_words-free.result ++ info_gaps c.conf-conf.result.now c.deref.result.now) 1) (λ (x : Graph). x ≡ sma_info_of c.args.limited all) (λ x is. is ∙ told) c.tell_gaps.ensures

@@ -2,8 +2,7 @@ use Rattle.std.proofs.Common.{◌≡◌, ◌∙◌, ◌+◌, ◌-◌, suc, List,
 use Rattle.std.specs.Prelude.{ℕ}
 use Rattle.std.specs.List.{flat_map, range_with_len}
 use Rattle.seg_words.specs.declared.gaps.Extent.{Extent}
-use Rattle.seg_words.specs.Gaps.{free_runs}
-use Rattle.sma_blocks.specs.Live.{live_blocks}
+use Rattle.sma_blocks.specs.Live.{free_runs_in}
 use Rattle.seg_report.specs.Lines.{fits_text, power_line}
 use Rattle.seg_report.proofs.AppendedText.{extends_by, extends_on, piece_on}
 use Rattle.seg_report.proofs.gaps.put_fits.Goals as goal
@@ -11,7 +10,7 @@ use Rattle.seg_report.proofs.gaps.put_fits.Goals as goal
 pub loop-bit-preserved : goal.loop-bit-preserved
 loop-bit-preserved g c =
     let sma = c.args.sma.now in
-    let runs_in : List ℕ → List Extent = λ w. free_runs sma.from sma.to sma.piece (live_blocks w sma.from) in
+    let runs_in : List ℕ → List Extent = free_runs_in sma.bounds in
     let runs = runs_in (g.S.WordsIn.words c.args.seg.now) in
     let i = c.loop-bit.invariant in
     let bit = c.loop-bit.bit in

@@ -1,8 +1,7 @@
 use Rattle.std.proofs.Common.{◌∙◌, ℕ, List, ap}
 use Rattle.std.specs.Prelude.{codes, sum_by}
 use Rattle.seg_words.specs.declared.gaps.Extent.{Extent}
-use Rattle.seg_words.specs.Gaps.{free_runs}
-use Rattle.sma_blocks.specs.Live.{largest_of, live_blocks}
+use Rattle.sma_blocks.specs.Live.{free_runs_in, largest_of}
 use Rattle.seg_report.specs.Lines.{number_line}
 use Rattle.seg_report.proofs.AppendedText.{extends_by, extends_on, on_err, on_ok}
 use Rattle.seg_report.proofs.MapPieces.{free_told}
@@ -11,7 +10,7 @@ use Rattle.seg_report.proofs.gaps.put_free.Goals as goal
 pub returns-clause-ok : goal.returns-clause-ok
 returns-clause-ok g c =
     let sma = c.args.sma.now in
-    let runs_in : List ℕ → List Extent = λ w. free_runs sma.from sma.to sma.piece (live_blocks w sma.from) in
+    let runs_in : List ℕ → List Extent = free_runs_in sma.bounds in
     let runs = runs_in (g.S.WordsIn.words c.args.seg.now) in
     let first = c.count_gaps-blocks.ensures.kept.words in
     let second = c.free_words.ensures.kept.words ∙ first in

@@ -2,9 +2,8 @@ use Rattle.std.proofs.Common.{◌∙◌, ℕ, List, ap}
 use Rattle.std.specs.Prelude.{codes}
 use Rattle.std.specs.List.{flat_map}
 use Rattle.seg_words.specs.declared.gaps.Extent.{Extent}
-use Rattle.seg_words.specs.Gaps.{free_runs}
 use Rattle.sma_blocks.specs.declared.sma.Sma.{Sma}
-use Rattle.sma_blocks.specs.Live.{live_blocks}
+use Rattle.sma_blocks.specs.Live.{free_runs_in}
 use Rattle.entry_slots.specs.declared.slots.EntrySlots.{EntrySlots}
 use Rattle.entry_slots.specs.Standing.{entries}
 use Rattle.cache_core.specs.CoreCache.{cache_of}
@@ -20,7 +19,7 @@ returns-clause-ok g c =
     let core = c.args.core.now in
     let ws = g.S.WordsIn.words c.args.seg.now in
     let aside = g.S.WordsIn.aside c.args.seg.now in
-    let runs_in : Sma → List ℕ → List Extent = λ m w. free_runs m.from m.to m.piece (live_blocks w m.from) in
+    let runs_in : Sma → List ℕ → List Extent = λ m w. free_runs_in m.bounds w in
     let parts : EntrySlots → List ℕ = λ x. flat_map part_line (parts_in (entries x).conf (entries x).rows (entries x).removed) in
     let lent = c.slots-slots.ensures.value in
     let last = g.S.WordsIn.words c.put_parts.new.seg in

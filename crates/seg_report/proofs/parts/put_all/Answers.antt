@@ -1,8 +1,7 @@
 use Rattle.std.proofs.Common.{◌∙◌, ◌++◌, ap, sym, refl, subst, arith, length, append-nil}
 use Rattle.std.specs.Prelude.{nat_le, find, option_map}
-use Rattle.seg_words.specs.Gaps.{free_runs}
 use Rattle.sma_blocks.specs.declared.sma.Sma.{Sma}
-use Rattle.sma_blocks.specs.Live.{live_blocks}
+use Rattle.sma_blocks.specs.Live.{free_runs_in}
 use Rattle.entry_slots.specs.Standing.{entries}
 use Rattle.seg_report.specs.PartWalks.{IsAtPart, WalksOn, pair_of}
 use Rattle.seg_report.proofs.AppendedText.{extends_on, extends_same}
@@ -15,7 +14,7 @@ loop-at-init g c =
     let s = entries c.args.slots.now in
     let at = c.slots-at.result in
     record {
-      here = starts c.args.slots.now ws (g.S.WordsIn.aside c.args.seg.now) s c.requires.stand c.requires.whole at c.slots-at.ensures.slots c.gap_from-gap.result (c.gap_from-gap.ensures.value ∙ ap (λ (m : Sma). option_map pair_of (find (λ run. nat_le at run.place) (free_runs m.from m.to m.piece (live_blocks ws m.from)))) c.sma.ensures);
+      here = starts c.args.slots.now ws (g.S.WordsIn.aside c.args.seg.now) s c.requires.stand c.requires.whole at c.slots-at.ensures.slots c.gap_from-gap.result (c.gap_from-gap.ensures.value ∙ ap (λ (m : Sma). option_map pair_of (find (λ run. nat_le at run.place) (free_runs_in m.bounds ws))) c.sma.ensures);
       text = ap (λ l. c.args.out.now ++ l) (text_starts c.args.slots.now ws (g.S.WordsIn.aside c.args.seg.now) s c.requires.stand c.requires.whole at c.slots-at.ensures.slots);
       grown = extends_same c.args.out.now c.args.out.now refl;
       kept = c.gap_from-gap.ensures.kept;
@@ -24,7 +23,7 @@ loop-at-init g c =
 pub put_part-requires-clause-here : goal.put_part-requires-clause-here
 put_part-requires-clause-here g c =
     let i = c.loop-at.invariant in
-    subst (λ w. IsAtPart w (entries c.args.slots.now) c.args.slots.now.sma.from c.loop-at.at c.loop-at.gap) (sym i.kept.words) i.here
+    subst (λ w. IsAtPart w (entries c.args.slots.now) c.args.slots.now.sma.bounds.from c.loop-at.at c.loop-at.gap) (sym i.kept.words) i.here
 
 pub put_part-requires-clause-low : goal.put_part-requires-clause-low
 put_part-requires-clause-low g c =
@@ -48,7 +47,7 @@ loop-at-preserved g c =
     let i = c.loop-at.invariant in
     let s = entries c.args.slots.now in
     let seen = c.in_ok-size.ensures.kept in
-    let walk = subst (λ w. WalksOn w s c.args.slots.now.sma.from c.loop-at.at c.loop-at.out c.put_part.new.out c.in_ok-size.size c.in_ok-size.next) i.kept.words c.in_ok-size.ensures.ok in
+    let walk = subst (λ w. WalksOn w s c.args.slots.now.sma.bounds.from c.loop-at.at c.loop-at.out c.put_part.new.out c.in_ok-size.size c.in_ok-size.next) i.kept.words c.in_ok-size.ensures.ok in
     record {
       here = walk.next;
       text = walk.text ∙ i.text;

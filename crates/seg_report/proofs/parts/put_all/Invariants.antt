@@ -10,7 +10,7 @@ use Rattle.seg_report.proofs.parts.put_all.Given as goal
 
 abbrev pub invariant-loop-at : goal.invariant-loop-at
 invariant-loop-at g l = record {
-  here : IsAtPart (g.S.WordsIn.words l.fn.seg) (entries l.slots) l.slots.sma.from l.at l.gap;
+  here : IsAtPart (g.S.WordsIn.words l.fn.seg) (entries l.slots) l.slots.sma.bounds.from l.at l.gap;
   text : l.out ++ lines_from (g.S.WordsIn.words l.fn.seg) (entries l.slots) l.at
       ≡ l.fn.out ++ flat_map part_line
       (parts_in (entries l.slots).conf (entries l.slots).rows (entries l.slots).removed);

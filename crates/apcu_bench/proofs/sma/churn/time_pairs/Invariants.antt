@@ -7,6 +7,6 @@ use Rattle.apcu_bench.proofs.sma.churn.time_pairs.Given as goal
 abbrev pub invariant-loop : goal.invariant-loop
 invariant-loop g l = record {
   ready : IsReady l.sma (g.S.WordsIn.words l.seg) (g.S.WordsIn.aside l.seg);
-  listed : AreListed (live_blocks (g.S.WordsIn.words l.seg) l.sma.from) l.places.items;
+  listed : AreListed (live_blocks (g.S.WordsIn.words l.seg) l.sma.bounds.from) l.places.items;
   aside : g.S.WordsIn.aside l.seg ≡ g.S.WordsIn.aside l.initial.seg;
 }

@@ -7,7 +7,7 @@ use Rattle.apcu_bench.proofs.sma.fill.fill.Given as goal
 abbrev pub invariant-loop-unit : goal.invariant-loop-unit
 invariant-loop-unit g l = record {
   ready : IsReady l.sma (g.S.WordsIn.words l.seg) (g.S.WordsIn.aside l.seg);
-  live : AreLive (live_blocks (g.S.WordsIn.words l.seg) l.sma.from) l.places.items;
-  from : l.sma.from ≡ l.initial.sma.from;
+  live : AreLive (live_blocks (g.S.WordsIn.words l.seg) l.sma.bounds.from) l.places.items;
+  from : l.sma.bounds.from ≡ l.initial.sma.bounds.from;
   aside : g.S.WordsIn.aside l.seg ≡ g.S.WordsIn.aside l.initial.seg;
 }

@@ -1,10 +1,9 @@
 use Rattle.std.proofs.Common.{◌∙◌, ℕ, List, ap}
 use Rattle.std.specs.Prelude.{sum_by}
 use Rattle.seg_words.specs.declared.gaps.Extent.{Extent}
-use Rattle.seg_words.specs.Gaps.{free_runs}
 use Rattle.seg_words.specs.Windows.{nothing_aside}
 use Rattle.sma_blocks.specs.declared.sma.Sma.{Sma}
-use Rattle.sma_blocks.specs.Live.{live_blocks}
+use Rattle.sma_blocks.specs.Live.{free_runs_in}
 use Rattle.apcu_model.specs.Cache.{Row}
 use Rattle.entry_slots.specs.declared.slots.EntrySlots.{EntrySlots}
 use Rattle.entry_slots.specs.Standing.{entries}
@@ -20,7 +19,7 @@ returns-clause-counts c =
     let ws = cache_words c.args.self.now in
     let slots = c.slots-slots.ensures.value in
     let words = c.from.ensures ∙ c.row_words-row_words.ensures.words ∙ ap (λ (e : EntrySlots). sum_by (λ (row : Row). row.size) (entries e).rows) slots in
-    let runs : List ℕ → Sma → List Extent = λ l s. free_runs s.from s.to s.piece (live_blocks l s.from) in
+    let runs : List ℕ → Sma → List Extent = λ l s. free_runs_in s.bounds l in
     let same = ap (λ l. runs l c.sma.result.now) c.row_words-row_words.ensures.kept.words ∙ ap (runs ws) (c.sma.ensures ∙ ap (λ (e : EntrySlots). e.sma) slots) ∙ gaps_are core.slots ws nothing_aside all (entries core.slots) c.requires.stand.alone.stand c.requires.stand.alone.whole in
     let free = c.from-2.ensures ∙ c.free_words-free_words.ensures.value ∙ ap (sum_by (λ (run : Extent). run.size)) same in
     let counts = c.counts-counts.ensures in

@@ -1,10 +1,9 @@
 use Rattle.std.proofs.Common.{◌∙◌, List, ap}
 use Rattle.std.specs.Prelude.{nat_le, find, option_map}
 use Rattle.seg_words.specs.declared.gaps.Extent.{Extent}
-use Rattle.seg_words.specs.Gaps.{free_runs}
 use Rattle.seg_words.specs.Windows.{nothing_aside}
 use Rattle.sma_blocks.specs.declared.sma.Sma.{Sma}
-use Rattle.sma_blocks.specs.Live.{live_blocks}
+use Rattle.sma_blocks.specs.Live.{free_runs_in}
 use Rattle.entry_slots.specs.declared.slots.EntrySlots.{EntrySlots}
 use Rattle.entry_slots.specs.Standing.{entries}
 use Rattle.cache_core.specs.CoreCache.{cache_of}
@@ -17,6 +16,6 @@ pub returns-clause-gap : goal.returns-clause-gap
 returns-clause-gap c =
     let core = c.args.self.now.core in
     let ws = cache_words c.args.self.now in
-    let runs : Sma → List Extent = λ s. free_runs s.from s.to s.piece (live_blocks ws s.from) in
+    let runs : Sma → List Extent = λ s. free_runs_in s.bounds ws in
     let same = ap runs (c.sma.ensures ∙ ap (λ (e : EntrySlots). e.sma) c.slots.ensures.value) ∙ gaps_are core.slots ws nothing_aside (cache_of core) (entries core.slots) c.requires.stand.alone.stand c.requires.stand.alone.whole in
     c.gap_from.ensures.value ∙ ap (λ (l : List Extent). option_map pair_of (find (λ run. nat_le c.args.from run.place) l)) same

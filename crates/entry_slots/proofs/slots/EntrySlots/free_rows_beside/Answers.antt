@@ -52,7 +52,7 @@ returns-clause-stand g c =
     let same : aside ≡ first = c.keep.ensures.beside.aside ∙ c.end_all.ensures.beside.aside in
     let stays = c.block_laws.ensures.before old.sma (g.S.WordsIn.words c.args.seg.now) ws1 first h.ready c.end_all.ensures.others in
     let e' : EntrySlots = record old { sma = c.keep.new.self; count = 0; standing = c.then-self.result } in
-    let done = cleared_stands s h c.requires.whole c.args.kept.now c.requires.kept c.lower_laws.ensures ws1 ws c.keep.new.self c.end_all.ensures.others c.end_all.ensures.ended stays.blocks c.keep.ensures.left c.keep.ensures.others c.keep.ensures.from c.keep.ensures.to c.keep.ensures.piece
+    let done = cleared_stands s h c.requires.whole c.args.kept.now c.requires.kept c.lower_laws.ensures ws1 ws c.keep.new.self c.end_all.ensures.others c.end_all.ensures.ended stays.blocks c.keep.ensures.left c.keep.ensures.others c.keep.ensures.bounds
     (subst (λ (a : Aside). IsReady c.keep.new.self ws a) same c.keep.ensures.ready) in
     subst (λ x. Stands e' ws aside x) (sym c.then-self.ensures)
     (subst (λ (a : Aside). Stands e' ws a (Rattle.entry_slots.specs.Entries.without_rows s)) (sym same) (restand {e' = e'} done refl refl refl refl))

@@ -31,7 +31,7 @@ returns-clause-stand g c =
     let sma : Sma = c.give.new.self in
     let r = unlinked_there s c.requires.stand at c.requires.there in
     let ready : IsReady sma ws aside = subst (λ (a : Aside). IsReady sma ws a) c.give.ensures.beside.aside c.give.ensures.ready in
-    let done = given_stands c.lower_laws.ensures s c.requires.stand at r.0 r.1 r.2 sma ws c.give.ensures.given c.give.ensures.others c.give.ensures.from c.give.ensures.to c.give.ensures.piece ready in
+    let done = given_stands c.lower_laws.ensures s c.requires.stand at r.0 r.1 r.2 sma ws c.give.ensures.given c.give.ensures.others c.give.ensures.bounds ready in
     let e' = record old { sma = sma; standing = c.then-self.result } in
     subst (λ x. Stands e' ws (g.S.WordsIn.aside c.give.new.seg) x) (sym c.then-self.ensures)
     (subst (λ a. Stands e' ws a (given_at at s)) (sym c.give.ensures.beside.aside) (restand {e' = e'} done refl refl refl refl))

@@ -22,14 +22,14 @@ use Rattle.entry_slots.proofs.DistinctPlaces.{rows_few}
 use Rattle.entry_slots.proofs.NewEntryLink.{old_row, old_target, old_place, taken_room, taken_write, entry_stands, link_stands}
 use Rattle.entry_slots.proofs.slots.EntrySlots.link.Goals as goal
 
-slot_is : (e : EntrySlots) (s : Entries) (key : List ℕ) (slot : ℕ) → e.sma.from ≡ s.conf.slots → slot ≡ hash_of key % e.sma.from → slot ≡ slot_of s.conf key
+slot_is : (e : EntrySlots) (s : Entries) (key : List ℕ) (slot : ℕ) → e.sma.bounds.from ≡ s.conf.slots → slot ≡ hash_of key % e.sma.bounds.from → slot ≡ slot_of s.conf key
 slot_is e s key slot from is = is ∙ ap (λ (n : ℕ). hash_of key % n) from
 
 write_along : (ws ws' : List ℕ) (aside aside' : Aside) (at n : ℕ) → ws' ≡ ws → aside' ≡ aside → MayWrite ws aside.windows at n → MayWrite ws' aside'.windows at n
 write_along ws ws' aside aside' at n ew ea may = subst (λ a. MayWrite ws' a.windows at n) (sym ea) (subst (λ w. MayWrite w aside.windows at n) (sym ew) may)
 
 -- the word of the chain, after the block was written
-link_word : {e : EntrySlots} {ws : List ℕ} {aside : Aside} (s : Entries) (h : Stands e ws aside s) (slot m target : ℕ) (ws' : List ℕ) → Stands e ws' aside s → slot < e.sma.from → IsLinkTo ws slot (chain_of s slot) target m → IsLinkWord ws' aside.windows m
+link_word : {e : EntrySlots} {ws : List ℕ} {aside : Aside} (s : Entries) (h : Stands e ws aside s) (slot m target : ℕ) (ws' : List ℕ) → Stands e ws' aside s → slot < e.sma.bounds.from → IsLinkTo ws slot (chain_of s slot) target m → IsLinkWord ws' aside.windows m
 link_word s h slot m target ws' h' lt link = spot_word m h' (cut_spot h' slot lt m 0 link.front link.back link.split link.follows)
 
 pub slot_for-slot-requires : goal.slot_for-slot-requires

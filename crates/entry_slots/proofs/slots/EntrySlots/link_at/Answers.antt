@@ -27,7 +27,7 @@ write_along : (ws ws' : List ℕ) (aside aside' : Aside) (at n : ℕ) → ws' �
 write_along ws ws' aside aside' at n ew ea may = subst (λ a. MayWrite ws' a.windows at n) (sym ea) (subst (λ w. MayWrite w aside.windows at n) (sym ew) may)
 
 -- the word of the chain, after the block was written
-link_word : {e : EntrySlots} {ws : List ℕ} {aside : Aside} (s : Entries) (h : Stands e ws aside s) (slot m target : ℕ) (ws' : List ℕ) → Stands e ws' aside s → slot < e.sma.from → IsLinkTo ws slot (chain_of s slot) target m → IsLinkWord ws' aside.windows m
+link_word : {e : EntrySlots} {ws : List ℕ} {aside : Aside} (s : Entries) (h : Stands e ws aside s) (slot m target : ℕ) (ws' : List ℕ) → Stands e ws' aside s → slot < e.sma.bounds.from → IsLinkTo ws slot (chain_of s slot) target m → IsLinkWord ws' aside.windows m
 link_word s h slot m target ws' h' lt link = spot_word m h' (cut_spot h' slot lt m 0 link.front link.back link.split link.follows)
 
 pub behind_spot-requires : goal.behind_spot-requires

@@ -15,7 +15,7 @@ pub loop-at-init : goal.loop-at-init
 loop-at-init g c =
     let all = all_words c.args.self.now (g.S.WordsIn.words c.args.seg.now) (g.S.WordsIn.aside c.args.seg.now) (entries c.args.self.now) c.requires.stand c.requires.whole c.free_words-free.result c.free_words-free.ensures.value in
     record {
-      left = left_all c.requires.stand c.args.self.now.removed (c.args.self.now.sma.to - c.args.self.now.sma.from - c.free_words-free.result) (chain_first (g.S.WordsIn.words c.args.seg.now) c.args.self.now.removed (entries c.args.self.now).removed c.requires.stand.removed_chain) (omega (arith, all));
+      left = left_all c.requires.stand c.args.self.now.removed (c.args.self.now.sma.bounds.to - c.args.self.now.sma.bounds.from - c.free_words-free.result) (chain_first (g.S.WordsIn.words c.args.seg.now) c.args.self.now.removed (entries c.args.self.now).removed c.requires.stand.removed_chain) (omega (arith, all));
       kept = c.free_words-free.ensures.kept;
     }
 

@@ -65,7 +65,7 @@ returns-clause-slot g c = λ row there place.
     let home = home_row row h there in
     let read = c.load-len.ensures.word (told_at home c.args.at 2 place (omega arith) (omega arith)) in
     let hash = c.hash_at.ensures.hash row.key (key_stands row home c.args.at c.load-len.result (g.S.WordsIn.words c.load-len.new.self) place (read ∙ key_length_at home c.args.at place) c.load-len.ensures.words) in
-    c.slot_in.ensures.slot ∙ (ap (λ (n : ℕ). n % c.args.self.now.sma.from) hash ∙ ap (λ (n : ℕ). hash_of row.key % n) h.from)
+    c.slot_in.ensures.slot ∙ (ap (λ (n : ℕ). n % c.args.self.now.sma.bounds.from) hash ∙ ap (λ (n : ℕ). hash_of row.key % n) h.from)
 
 pub slot_in-requires : goal.slot_in-requires
 slot_in-requires g c = record { some = omega (arith, c.requires.stand.from, c.requires.stand.usable.slots_least) }

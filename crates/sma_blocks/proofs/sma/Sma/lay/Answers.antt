@@ -1,8 +1,9 @@
-use Rattle.std.proofs.Common.{◌≡◌, inl, inr, ℕ, ◌+◌, ◌-◌, ◌%◌, ◌<◌, ◌≤◌, true, false, List, max, refl, sym, ◌∙◌, subst, arith}
+use Rattle.std.proofs.Common.{◌≡◌, inl, inr, ℕ, ◌+◌, ◌-◌, ◌%◌, ◌<◌, ◌≤◌, true, false, List, max, refl, sym, ap, ◌∙◌, subst, arith}
 use Rattle.seg_words.specs.Windows.{Aside}
 use Rattle.seg_words.specs.Blocks.{MayStore}
 use Rattle.seg_words.specs.Gaps.{is_whole}
 use Rattle.seg_words.specs.Segments.{whole_part}
+use Rattle.sma_blocks.specs.declared.bounds.Bounds.{Bounds}
 use Rattle.sma_blocks.proofs.FrontGap.{laid_front, laid_total, laid_stands, merged_store, gapped}
 use Rattle.sma_blocks.proofs.sma.Sma.lay.Goals as goal
 
@@ -15,9 +16,7 @@ loop-end-init g c = record {
   apart = c.requires.apart;
   words = refl;
   count = refl;
-  from = refl;
-  to = refl;
-  piece = refl;
+  bounds = refl;
   low = c.requires.order;
   high = omega arith;
   even = c.requires.even.1;
@@ -55,11 +54,11 @@ loop-end-preserved g c =
     let begin = c.max-begin.result in
     let end = c.loop-end.end in
     let is : begin ≡ max c.segment_of-own.result c.args.first = c.max-begin.ensures in
-    let piece = c.args.self.now.piece in
+    let piece = c.args.self.now.bounds.piece in
     let some : begin < end = omega arith in
     let from_first : c.args.first ≤ begin = omega arith in
     let begin_even : begin % 2 ≡ 0 = omega (arith, own.even, c.requires.even.0) in
-    let all : is_whole piece c.segment_of-own.result (((end - 1) - c.segment_of-own.result) + 1) ≡ true = subst (λ (x : ℕ). is_whole x c.segment_of-own.result (((end - 1) - c.segment_of-own.result) + 1) ≡ true) inv.piece own.whole in
+    let all : is_whole piece c.segment_of-own.result (((end - 1) - c.segment_of-own.result) + 1) ≡ true = subst (λ (x : ℕ). is_whole x c.segment_of-own.result (((end - 1) - c.segment_of-own.result) + 1) ≡ true) (ap (λ (b : Bounds). b.piece) inv.bounds) own.whole in
     let whole : is_whole piece begin (end - begin) ≡ true = whole_part piece c.segment_of-own.result (((end - 1) - c.segment_of-own.result) + 1) begin (end - begin) all (omega arith) (omega arith) (omega arith) in
     let one = gapped (inv.more (omega arith)) begin (g.S.WordsIn.words c.lay_one.new.seg) c.lay_one.new.self.sizes c.lay_one.new.self.head c.lay_one.new.self.free in
     let front = one false begin_even inv.even some whole refl c.lay_one.ensures.words c.lay_one.ensures.sizes c.lay_one.ensures.head.0 c.lay_one.ensures.head.1 in
@@ -67,7 +66,7 @@ loop-end-preserved g c =
       laid = front.laid;
       more = λ more.
           let here : begin ≡ c.segment_of-own.result = omega arith in
-          let border : is_whole piece (c.segment_of-own.result - 1) 2 ≡ false = subst (λ (x : ℕ). is_whole x (c.segment_of-own.result - 1) 2 ≡ false) inv.piece (own.first (omega arith)) in
+          let border : is_whole piece (c.segment_of-own.result - 1) 2 ≡ false = subst (λ (x : ℕ). is_whole x (c.segment_of-own.result - 1) 2 ≡ false) (ap (λ (b : Bounds). b.piece) inv.bounds) (own.first (omega arith)) in
           (one true begin_even inv.even some whole (subst (λ (x : ℕ). is_whole piece (x - 1) 2 ≡ false) (sym here) border) c.lay_one.ensures.words c.lay_one.ensures.sizes c.lay_one.ensures.head.0 c.lay_one.ensures.head.1).laid;
       blocks = front.blocks ∙ inv.blocks;
       same = λ i out. front.same i (elim out [ inl l ↦ inl (omega arith) | inr r ↦ inr (omega arith) ]) ∙ inv.same i out;
@@ -77,9 +76,7 @@ loop-end-preserved g c =
           (merged_store (g.S.WordsIn.words c.loop-end.seg) (g.S.WordsIn.aside c.args.seg.now).windows begin end c.loop-end.self.head i (store begin (omega arith) some) (store (begin + 1) (omega arith) (let even = inv.even in omega arith)) (store i low_i (omega arith)));
       words = front.count ∙ inv.words;
       count = c.lay_one.ensures.sizes.count ∙ inv.count;
-      from = c.lay_one.ensures.from ∙ inv.from;
-      to = c.lay_one.ensures.to ∙ inv.to;
-      piece = c.lay_one.ensures.piece ∙ inv.piece;
+      bounds = c.lay_one.ensures.bounds ∙ inv.bounds;
       low = from_first;
       high = omega arith;
       even = begin_even;

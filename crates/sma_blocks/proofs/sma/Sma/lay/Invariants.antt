@@ -8,16 +8,14 @@ use Rattle.sma_blocks.proofs.sma.Sma.lay.Given as goal
 
 abbrev pub invariant-loop-end : goal.invariant-loop-end
 invariant-loop-end g l = record {
-  laid : IsLaid l.initial.self.piece (g.S.WordsIn.words l.seg) l.end l.self.sizes l.self.head l.self.free false;
-  more : l.first < l.end → IsLaid l.initial.self.piece (g.S.WordsIn.words l.seg) l.end l.self.sizes l.self.head l.self.free true;
+  laid : IsLaid l.initial.self.bounds.piece (g.S.WordsIn.words l.seg) l.end l.self.sizes l.self.head l.self.free false;
+  more : l.first < l.end → IsLaid l.initial.self.bounds.piece (g.S.WordsIn.words l.seg) l.end l.self.sizes l.self.head l.self.free true;
   blocks : lives (tiles (g.S.WordsIn.words l.seg) l.end) ≡ lives (tiles (g.S.WordsIn.words l.initial.seg) l.last);
   same : (i : ℕ) → (i < l.first) ⊎ (l.last ≤ i) → slice_index (g.S.WordsIn.words l.seg) i ≡ slice_index (g.S.WordsIn.words l.initial.seg) i;
   apart : (i : ℕ) → l.first ≤ i → i < l.end → MayStore (g.S.WordsIn.words l.seg) (g.S.WordsIn.aside l.initial.seg).windows i;
   words : length (g.S.WordsIn.words l.seg) ≡ length (g.S.WordsIn.words l.initial.seg);
   count : length l.self.sizes ≡ length l.initial.self.sizes;
-  from : l.self.from ≡ l.initial.self.from;
-  to : l.self.to ≡ l.initial.self.to;
-  piece : l.self.piece ≡ l.initial.self.piece;
+  bounds : l.self.bounds ≡ l.initial.self.bounds;
   low : l.first ≤ l.end;
   high : l.end ≤ l.last;
   even : l.end % 2 ≡ 0;
