@@ -8,6 +8,7 @@ use mathlib.Core.List.{IsPrefix}
 use lib.ListN.{get_elem?}
 use Rattle.seg_words.specs.Windows.{has}
 use Rattle.seg_words.specs.Blocks.{image_place}
+use Rattle.apcu_model.specs.declared.limits.TheConstants.{MOST_WORKERS}
 use Rattle.apcu_model.specs.declared.request.Event.{Event}
 use Rattle.pin_table.specs.declared.views.Known.{Known}
 use Rattle.pin_table.specs.declared.views.EventLog.{EventLog}
@@ -50,7 +51,7 @@ pub record PassInOrder (b : EventLog) (place : ℕ → ℕ) (k : ℕ) (p : Known
 -- just now, if it is not 0.
 pub record StateInOrder (d : WriterState) (copying : List ℕ) : Type 0 where
   pub log : LogInOrder d.log
-  pub few : length copying ≤ 64
+  pub few : length copying ≤ MOST_WORKERS
   pub seats : length d.windows ≡ length copying
   pub all_seats : length d.log.budgets ≡ length copying
   -- who copies from a block has its window on it

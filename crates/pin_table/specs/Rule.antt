@@ -11,6 +11,7 @@ use Rattle.atomic_table.specs.Table.{State}
 use Rattle.seg_words.specs.declared.layout.TheConstants.{IMAGE_LENGTH, PIN_COUNT}
 use Rattle.seg_words.specs.Windows.{has, is_named}
 use Rattle.seg_words.specs.Blocks.{IsTold, image_place, image_end}
+use Rattle.apcu_model.specs.declared.limits.TheConstants.{MOST_WORKERS}
 use Rattle.pin_table.specs.declared.views.Known.{Known}
 use Rattle.pin_table.specs.declared.views.Reader.{Reader}
 use Rattle.pin_table.specs.declared.views.WriterState.{WriterState}
@@ -43,7 +44,7 @@ pub record PassesAreOne (views : List View) (d : WriterState) (place : ℕ → �
   pub closed : (w : ℕ) → has_worker w d.log.closed ≡ true → w < d.log.made
   pub no_event : (w : ℕ) → d.log.made ≤ w → events_of w d.log.history ≡ []
   pub no_window : (w at : ℕ) → d.log.made ≤ w → get_elem? d.windows w ≡ some at → at ≡ 0
-  pub few : d.log.made ≤ 64
+  pub few : d.log.made ≤ MOST_WORKERS
 
 -- Third: what a pass has seen is a beginning of the writer's history, its own events are all of its
 -- worker's events there and in the whole history, and with those left they are the worker's budget.

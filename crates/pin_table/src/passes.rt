@@ -4,6 +4,7 @@ ghost use Rattle.std.specs.Prelude.{◌≡◌, ℕ, ◌+◌, ◌<◌, ◌≤◌,
 ghost use Rattle.std.specs.Prelude.{length, slice_get, Some, None, IfOk, IfSome};
 ghost use Rattle.std.specs.Prelude.{IfNone, vec_capacity, vec_len};
 ghost use mathlib.Core.List.{IsPrefix};
+ghost use Rattle.apcu_model.specs.declared.limits.TheConstants.{MOST_WORKERS};
 ghost use Rattle.pin_table.specs.Events.{events_of};
 ghost use Rattle.pin_table.specs.Views.{with_log, rested, has_worker};
 ghost use Rattle.pin_table.specs.Lists.{first_log, first_state, first_passes, known_list, AllOf};
@@ -80,7 +81,7 @@ impl EndedList {
 fn fill(table: &PinTable, seat: &mut WriterSeat, budgets: &[u32], list: &mut Vec<Pass>)
     requires table { seat.old.table ≡ table.now }
     requires log { seat.old.state.log ≡ first_log budgets.now 0 }
-    requires few { length budgets.now ≤ 64 }
+    requires few { length budgets.now ≤ MOST_WORKERS }
     requires list { list.old.items ≡ [] }
     requires room { length budgets.now ≤ vec_capacity list.old }
     ensures table { seat.new.table ≡ seat.old.table }
@@ -108,7 +109,7 @@ impl PinTable {
         budgets: &[u32],
     ) -> Result<(PinTable, WriterSeat, Passes, EndedList), AllocError>
         requires words { 0 < length (⟦<VecWords as WordsIn>⟧.words words) }
-        requires budgets { length budgets.now ≤ 64 }
+        requires budgets { length budgets.now ≤ MOST_WORKERS }
         ensures table { IfOk result (λ r. r.1.table ≡ r.0) }
         ensures count { IfOk result (λ r.
             r.0.words ≡ length (⟦<VecWords as WordsIn>⟧.words words)) }

@@ -6,6 +6,7 @@ ghost use Rattle.std.specs.Prelude.{None, IfOk, MatchBool};
 ghost use Rattle.seg_words.specs.declared.layout.TheConstants.{IMAGE_LENGTH};
 ghost use Rattle.seg_words.specs.Windows.{has, is_named, closed_on, held_by, holders};
 ghost use Rattle.seg_words.specs.Blocks.{IsTold, MayStore, MayProbe, image_place};
+ghost use Rattle.apcu_model.specs.declared.limits.TheConstants.{MOST_WORKERS};
 ghost use Rattle.pin_table.specs.Events.{is_fetch};
 ghost use Rattle.pin_table.specs.Pins.{IsBlock, MeetsNone, refused_in};
 ghost use Rattle.pin_table.specs.Views.{has_worker, state_of, in_hand, with_words, with_log};
@@ -72,6 +73,7 @@ pub struct WriterSeat {
 
 impl Model for WriterSeat {
     ghost use Rattle.std.specs.Prelude.{◌≡◌, ◌≤◌, [], length};
+    ghost use Rattle.apcu_model.specs.declared.limits.TheConstants.{MOST_WORKERS};
     ghost use Rattle.pin_table.specs.Values.{WriterView};
     ghost use Rattle.pin_table.specs.Views.{state_of};
     ghost use Rattle.pin_table.specs.declared.views.View.TheVariants.{Writer};
@@ -85,7 +87,7 @@ impl Model for WriterSeat {
         × (s.seat.me ≡ (Writer (state_of s.seat.me.0), []))
         × (length (state_of s.seat.me.0).words ≡ s.seat.table_id.words)
         × (s.windows.items ≡ (state_of s.seat.me.0).windows)
-        × (length s.windows.items ≤ 64)
+        × (length s.windows.items ≤ MOST_WORKERS)
         × (s.mask ≡ (state_of s.seat.me.0).mask)
         × ((state_of s.seat.me.0).pinning ≡ 0) };
 }
@@ -118,7 +120,7 @@ fn close_windows(windows: &mut Vec<u32>, at: u32)
 
 // The workers whose window is this place, a bit each, the worker 0 lowest.
 fn holders(windows: &[u32], at: u32) -> u64
-    requires { length windows.now ≤ 64 }
+    requires { length windows.now ≤ MOST_WORKERS }
     ensures { result ≡ holders windows.now at }
 {
     let mut mask = 0u64;
@@ -163,7 +165,7 @@ impl PinTable {
     ) -> Result<(PinTable, WriterSeat), AllocError>
         requires some_word { 0 < length words.items }
         requires short { length words.items < 2 ^ 32 }
-        requires few { length budgets.items ≤ 64 }
+        requires few { length budgets.items ≤ MOST_WORKERS }
         requires windows { windows.items ≡ replicate (length budgets.items) 0 }
         ensures table { IfOk result (λ r. r.1.table ≡ r.0) }
         ensures count { IfOk result (λ r. r.0.words ≡ length words.items) }
