@@ -27,7 +27,6 @@ pub mod RowListMoves
 pub mod RowRemoval
 pub mod IntegerRows
 pub mod Runs
-pub mod FieldlessStruct
 pub mod GhostEntries
 pub mod RowWindows
 pub mod PlaceLemmas

@@ -85,7 +85,7 @@ pub record Stands (e : EntrySlots) (words : List ℕ) (aside : Aside) (s : Entri
 
 -- the entries that are kept beside the words
 abbrev pub entries : EntrySlots → Entries
-entries e = e.standing.entries
+entries e = e.standing.state
 
 -- the words stand for them
 abbrev pub Stand : {X R : Type 0} → Ghosts X R → EntrySlots → X → Type 0

@@ -38,7 +38,7 @@ impl EntrySlots {
             removed: 0,
             next_number: 1,
             count: 0,
-            standing: Standing::new(conf),
+            standing: Standing::start(conf),
         }
     }
 

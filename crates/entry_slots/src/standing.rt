@@ -1,25 +1,30 @@
 //! The ghost of the entries: what the words stand for.
 
-ghost use Rattle.std.specs.Prelude.{◌≡◌};
-ghost use Rattle.std.specs.Borrow.{ftrue};
 ghost use Rattle.entry_slots.specs.Entries.{Entries, no_entries};
 
 use apcu_model::Conf;
+use ghost_log::{Begins, Happens, Log};
 use std::marker::Model;
 use value_image::Content;
 
 /// The entries that the words beside it are said to stand for. It exists only in proofs.
-#[derive(Drop)]
-pub struct Standing {
-    /// They change by `then` alone.
-    pub ghost entries: { Entries },
+pub type Standing = Log<EntrySets>;
+
+/// What contracts see as entries. No value of this type is made.
+pub struct EntrySets {
+    conf: Conf,
 }
 
-impl Model for Standing {
-    ghost also_owns = { λ _. ftrue };
+impl Model for EntrySets {
+    ghost Value = { Entries };
+
+    ghost view = { λ s. no_entries s.conf };
 }
 
-unsafe impl Send for Standing {}
+// No entry, in a segment of this shape.
+impl Begins<EntrySets> for Conf {
+    ghost begun = { no_entries };
+}
 
 /// A change of the entries, with the place of the block that it is about.
 #[derive(Clone, Copy, Drop)]
@@ -46,20 +51,8 @@ pub enum Change<'a> {
     Clear,
 }
 
-impl Standing {
+impl Happens<EntrySets> for Change<'_> {
     ghost use Rattle.entry_slots.specs.Changes.{changed};
 
-    /// No entry, in a segment of this shape.
-    pub fn new(_conf: &Conf) -> Standing
-        ensures { result.entries ≡ no_entries _conf.now }
-    {
-        Standing {}
-    }
-
-    /// The entries after a change.
-    pub fn then(&self, _change: &Change<'_>) -> Standing
-        ensures { result.entries ≡ changed _change.now self.now.entries }
-    {
-        Standing {}
-    }
+    ghost after = { changed };
 }

@@ -28,7 +28,7 @@ returns-clause-stand g c =
     let q = unlinked_there s h1 c.args.at c.requires.there in
     let alone : slice_index ws (c.args.at + 1) ≡ 0 = ap (λ (w : List ℕ). slice_index w (c.args.at + 1)) c.removed_link.ensures.kept.words ∙ c.requires.alone in
     let e' = record c.name.new.self { standing = c.then-self.result } in
-    let is = c.then-self.ensures ∙ ap (λ k. moved_at c.args.at k.entries) c.name.ensures.standing in
+    let is = c.then-self.ensures ∙ ap (λ k. moved_at c.args.at k.state) c.name.ensures.standing in
     subst (λ x. Stands e' (g.S.WordsIn.words c.name.new.seg) (g.S.WordsIn.aside c.name.new.seg) x) (sym is)
     (restand {e' = e'} (stands_along (g.S.WordsIn.words c.name.new.seg) (g.S.WordsIn.aside c.name.new.seg)
     (named_stands c.args.self.now c.name.new.self ws (g.S.WordsIn.words c.name.new.seg) (g.S.WordsIn.aside c.removed_link.new.seg) c.in-Some.link c.args.at (moved_at c.args.at s) c.name.ensures.head c.name.ensures.word

@@ -20,8 +20,8 @@ pub returns-clause-stand : goal.returns-clause-stand
 returns-clause-stand g c =
     let ws : List ℕ = g.S.WordsIn.words c.format.new.seg in
     let aside : Aside = g.S.WordsIn.aside c.format.new.seg in
-    let e' : EntrySlots = record { sma = c.format.result; removed = 0; next_number = 1; count = 0; standing = c.new.result } in
-    subst (λ x. Stands e' ws aside x) (sym c.new.ensures)
+    let e' : EntrySlots = record { sma = c.format.result; removed = 0; next_number = 1; count = 0; standing = c.start.result } in
+    subst (λ x. Stands e' ws aside x) (sym c.start.ensures)
     (bare_stands e' ws aside c.args.conf.now c.requires.usable
     (λ slot lt. c.format.ensures.before.before slot lt ∙ c.end_chains.ensures.ended slot lt)
     refl refl c.format.ensures.ready

@@ -112,7 +112,7 @@ returns-clause-stand g c =
     c.store-2.ensures.words ∙ (ap (λ (u : List ℕ). slice_set u (c.args.at + 6) c.args.t) (c.store.ensures.words ∙ ap (λ (u : List ℕ). slice_set u i c.cast_unsigned.result) c.load-len.ensures.words)
     ∙ ap (λ (n : ℕ). slice_set (slice_set ws i n) (c.args.at + 6) c.args.t) cast) in
     let e' = record c.args.self.now { standing = c.then-self.result } in
-    let is : c.then-self.result.entries ≡ with_number c.args.at c.args.n c.args.t s = c.then-self.ensures ∙ ap (λ z. with_number c.args.at z c.args.t s) (to_z-of_z w64 c.args.n c.ranges.n) in
+    let is : c.then-self.result.state ≡ with_number c.args.at c.args.n c.args.t s = c.then-self.ensures ∙ ap (λ z. with_number c.args.at z c.args.t s) (to_z-of_z w64 c.args.n c.ranges.n) in
     subst (λ x. Stands e' (g.S.WordsIn.words c.store-2.new.self) (g.S.WordsIn.aside c.store-2.new.self) x) (sym is)
     (restand {e' = e'} (stands_along (g.S.WordsIn.words c.store-2.new.self) (g.S.WordsIn.aside c.store-2.new.self)
     (number_stands c.lower_laws.ensures s h c.args.at i c.args.t c.args.n m.number row there place m.int c.ranges.n (omega (arith, c.words_in.ensures, long)))

@@ -59,7 +59,7 @@ returns-clause-stand g c =
     let some : c.args.at ≢ 0 = λ q. omega (arith, w.some, r.2) in
     let next : c.next_of-next.result ≡ slice_index ws (c.args.at + 1) = c.next_of-next.ensures.next ∙ ap (λ (v : List ℕ). slice_index v (c.args.at + 1)) (sym c.next_of-next.ensures.kept.words) in
     let e' = record c.name.new.self { standing = c.then-self-2.result } in
-    let is = c.then-self-2.ensures ∙ ap (λ k. off_at c.args.at k.entries) c.name.ensures.standing in
+    let is = c.then-self-2.ensures ∙ ap (λ k. off_at c.args.at k.state) c.name.ensures.standing in
     subst (λ x. Stands e' (g.S.WordsIn.words c.name.new.seg) (g.S.WordsIn.aside c.name.new.seg) x) (sym is)
     (restand {e' = e'} (stands_along (g.S.WordsIn.words c.name.new.seg) (g.S.WordsIn.aside c.name.new.seg)
     (named_stands c.args.self.now c.name.new.self ws (g.S.WordsIn.words c.name.new.seg) (g.S.WordsIn.aside c.next_of-next.new.seg) c.in-Some.link c.next_of-next.result (off_at c.args.at s) c.name.ensures.head c.name.ensures.word

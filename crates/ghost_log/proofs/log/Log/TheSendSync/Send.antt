@@ -1,0 +1,7 @@
+-- A `Log` owns nothing, so it may go to another thread.
+use denote.RattleType.{RattleType}
+use denote.Param.Send.{IsSend}
+use Rattle.ghost_log.specs.contracts.log.Log.{the_row}
+
+pub send : (S : RattleType) → IsSend (the_row S)
+send S = record { owned = λ d vs. ((λ vss. (tt, ((λ uss. (tt, tt)), tt))), tt); leaving = λ k f vs. tt }
