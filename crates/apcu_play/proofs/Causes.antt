@@ -4,6 +4,7 @@ use Rattle.std.specs.Prelude.{Bool, IfErr, IfSome, ◌⊎◌}
 use Rattle.io_edges.specs.Faults.{Rose}
 use Rattle.io_edges.specs.Reading.{HasTakenWithin}
 use Rattle.apcu_model.specs.declared.conf.Conf.{Conf}
+use Rattle.apcu_model.specs.declared.limits.TheConstants.{LONGEST_INPUT}
 use Rattle.conf_read.specs.declared.settings.Settings.{Settings}
 use Rattle.conf_read.specs.declared.task.Task.{Task}
 use Rattle.conf_read.specs.declared.task.Task.TheVariants.{Play, Generate, Verify}
@@ -23,7 +24,7 @@ use Rattle.apcu_play.specs.declared.status.Status.TheVariants.{Done, Usage, Scri
 use Rattle.apcu_play.specs.Causes.{IsCause, IsCauseIn, ending_by, refuses_none, status_for}
 use Rattle.apcu_play.specs.Ended.{Sourced, Sunk, IsUnwritten, IsEnding}
 use Rattle.apcu_play.specs.Inputs.{AreTooMany, AreFew, Spells, SpellsNone, LacksBundle, IsFirstInputFault, IsFirstBundleFault, bundle_of}
-use Rattle.apcu_play.specs.Tasks.{longest_input, WasRead, IsCrowded, IsCrowdedTask, LeavesInput, generated_events}
+use Rattle.apcu_play.specs.Tasks.{WasRead, IsCrowded, IsCrowdedTask, LeavesInput, generated_events}
 use Rattle.apcu_play.proofs.InputFaults.{whole_fault}
 use Rattle.apcu_play.proofs.TakenInput.{was_taken, none_taken}
 
@@ -31,14 +32,14 @@ use Rattle.apcu_play.proofs.TakenInput.{was_taken, none_taken}
 left_taken : (before after : Option (List ℕ)) (most : ℕ) → after ≡ before → HasTakenWithin before after most
 left_taken before after most same = subst (λ a. HasTakenWithin before a most) (sym same) (none_taken before most)
 
-crowded_taken : (conf : Conf) (task : Task) (before after : Option (List ℕ)) (status : Status) (reads_before reads_after : ℕ) → IsCrowdedTask conf task before after → LeavesInput task status before after reads_before reads_after → HasTakenWithin before after longest_input
+crowded_taken : (conf : Conf) (task : Task) (before after : Option (List ℕ)) (status : Status) (reads_before reads_after : ℕ) → IsCrowdedTask conf task before after → LeavesInput task status before after reads_before reads_after → HasTakenWithin before after LONGEST_INPUT
 crowded_taken conf (Play bundle map) before after status reads_before reads_after c unread = was_taken before after c.input c.read
-crowded_taken conf (Generate seed crew each) before after status reads_before reads_after c unread = left_taken before after longest_input unread.left
+crowded_taken conf (Generate seed crew each) before after status reads_before reads_after c unread = left_taken before after LONGEST_INPUT unread.left
 crowded_taken conf (Verify len) before after status reads_before reads_after c unread = was_taken before after c.input c.read
 
 -- what was taken at most, by the cause
 pub cause_within : (may_refuse : Bool → List ℕ → Type 0) (conf : Conf) (task : Task) (before after : Option (List ℕ)) (reads_before reads_after : ℕ) (status : Status) (place : ℕ) (reason : Reason)
-    → IsCause may_refuse conf task before after reads_before reads_after status place reason → LeavesInput task status before after reads_before reads_after → status ≢ TooLong → HasTakenWithin before after longest_input
+    → IsCause may_refuse conf task before after reads_before reads_after status place reason → LeavesInput task status before after reads_before reads_after → status ≢ TooLong → HasTakenWithin before after LONGEST_INPUT
 cause_within may_refuse conf task before after reads_before reads_after Done place reason c unread other = absurd c
 cause_within may_refuse conf task before after reads_before reads_after Usage place reason c unread other = absurd c
 cause_within may_refuse conf task before after reads_before reads_after Script place reason c unread other = was_taken before after c.input c.read
@@ -163,7 +164,7 @@ seed_cause may_refuse conf task seed crew each left reads (Ok x) is many others 
 seed_cause may_refuse conf task seed crew each left reads (Err e) is many others =
     ⊎_elim
     (λ m. subst (λ st. IsCause may_refuse conf task left left reads reads st e.place e.reason) (sym m) (subst (λ t. IsCrowdedTask conf t left left) (sym is) (many m)))
-    (λ n. subst (λ st. IsCause may_refuse conf task left left reads reads st e.place e.reason) (sym n) (none_taken left longest_input))
+    (λ n. subst (λ st. IsCause may_refuse conf task left left reads reads st e.place e.reason) (sym n) (none_taken left LONGEST_INPUT))
     others
 
 -- a fault of scripts without a bundle

@@ -6,12 +6,13 @@ use Rattle.conf_read.specs.declared.settings.Settings.{Settings}
 use Rattle.conf_read.specs.declared.task.Task.{Task}
 use Rattle.conf_read.specs.declared.task.Task.TheVariants.{Play, Generate, Verify}
 use Rattle.notation.specs.declared.fault.Reason.{Reason}
+use Rattle.apcu_model.specs.declared.limits.TheConstants.{LONGEST_INPUT}
 use Rattle.apcu_play.specs.declared.ending.Ending.{Ending}
 use Rattle.apcu_play.specs.declared.status.Status.{Status}
 use Rattle.apcu_play.specs.declared.status.Status.TheVariants.{Done, Usage, Script, ReadFault, WriteFault, NoMemory, TooLong, TooMany, Pattern, Differs, Bundle}
 use Rattle.apcu_play.specs.Ended.{Sourced, Sunk, sourced, sunk, IsUnwritten, IsEnding, RunHasEnded}
 use Rattle.apcu_play.specs.Run.{IsUnlessMemory}
-use Rattle.apcu_play.specs.Tasks.{longest_input, LeavesInput}
+use Rattle.apcu_play.specs.Tasks.{LeavesInput}
 use Rattle.apcu_play.proofs.TakenInput.{none_taken}
 use Rattle.apcu_play.proofs.ExcludedCases.{unmet}
 
@@ -35,7 +36,7 @@ module _ (may_refuse : Bool → List ℕ → Type 0) (s : Settings) (input : Sou
 
   pub ended_by : (status : Status)
       → IsEnding may_refuse s input out status place reason
-      → (status ≢ TooLong → HasTakenWithin input.before input.after longest_input)
+      → (status ≢ TooLong → HasTakenWithin input.before input.after LONGEST_INPUT)
       → LeavesInput s.task status input.before input.after input.reads_before input.reads_after
       → RunHasEnded may_refuse (Some s) input out (record { status = status; place = place; reason = reason })
   ended_by status e within unread = record {
@@ -62,7 +63,7 @@ module _ (may_refuse : Bool → List ℕ → Type 0) (s : Settings) (input : Sou
 
 pub ended_for : (may_refuse : Bool → List ℕ → Type 0) (told : Option Settings) (s : Settings) (input : Sourced) (out : Sunk) (ending : Ending) → told ≡ Some s
     → IsEnding may_refuse s input out ending.status ending.place ending.reason
-    → (ending.status ≢ TooLong → HasTakenWithin input.before input.after longest_input)
+    → (ending.status ≢ TooLong → HasTakenWithin input.before input.after LONGEST_INPUT)
     → LeavesInput s.task ending.status input.before input.after input.reads_before input.reads_after
     → RunHasEnded may_refuse told input out ending
 ended_for may_refuse told s input out ending is e within unread =
@@ -82,7 +83,7 @@ early may_refuse told left held reads writes ending never usage faulty = record 
   pattern = unmet _ told (never Pattern (λ e. cc) (λ e. cc));
   too_long = λ is. absurd (never TooLong (λ e. cc) (λ e. cc) is);
   longer = λ is. absurd (never TooLong (λ e. cc) (λ e. cc) is);
-  within = λ _. none_taken left longest_input;
+  within = λ _. none_taken left LONGEST_INPUT;
   read_fault = λ is. absurd (never ReadFault (λ e. cc) (λ e. cc) is);
   unread = unread_by told;
   write_fault = λ is. absurd (never WriteFault (λ e. cc) (λ e. cc) is);

@@ -5,6 +5,7 @@ use Rattle.std.proofs.lemmas.List.{append-nil}
 use Rattle.std.specs.Io.KnownBytes.{prepend_known, IsAtEnd}
 use Rattle.io_edges.specs.Faults.{Rose}
 use Rattle.apcu_model.specs.declared.conf.Conf.{Conf}
+use Rattle.apcu_model.specs.declared.limits.TheConstants.{LONGEST_INPUT}
 use Rattle.conf_read.specs.declared.task.Task.{Task}
 use Rattle.conf_read.specs.declared.task.Task.TheVariants.{Play, Generate, Verify}
 use Rattle.script_read.specs.declared.script.Step.{Step}
@@ -14,7 +15,7 @@ use Rattle.preload_set.specs.Ties.{BundlesAreOne}
 use Rattle.apcu_play.specs.declared.status.Status.{Status}
 use Rattle.apcu_play.specs.declared.status.Status.TheVariants.{Done, Usage, Script, ReadFault, WriteFault, NoMemory, TooLong, TooMany, Pattern, Differs, Bundle}
 use Rattle.apcu_play.specs.Inputs.{AreTooMany, AreFew, Spells, SpellsNone, LacksBundle, bundle_of}
-use Rattle.apcu_play.specs.Tasks.{longest_input, WasRead, IsRefused, IsUnloaded, IsCrowded, IsUnsearchable}
+use Rattle.apcu_play.specs.Tasks.{WasRead, IsRefused, IsUnloaded, IsCrowded, IsUnsearchable}
 use Rattle.apcu_play.specs.Run.{IsUnlessMemory, IsWrittenWhole, CompletesInput}
 use Rattle.apcu_play.proofs.SpelledInputs.{one_spelled, none_spelled, loaded_spelled, loaded_none, few_many}
 
@@ -28,8 +29,8 @@ all_read left input (Some rest) taken end =
 pub was_read : (left input : List ℕ) (before after : Option (List ℕ)) → before ≡ Some left → WasRead before after input → left ≡ input
 was_read left input before after told read = all_read left input after (sym told ∙ read.taken) read.whole
 
-longer_is : (left : List ℕ) (before : Option (List ℕ)) → before ≡ Some left → IfSome before (λ l. longest_input < length l) → longest_input < length left
-longer_is left before told longer = subst (λ (o : Option (List ℕ)). IfSome o (λ l. longest_input < length l)) told longer
+longer_is : (left : List ℕ) (before : Option (List ℕ)) → before ≡ Some left → IfSome before (λ l. LONGEST_INPUT < length l) → LONGEST_INPUT < length left
+longer_is left before told longer = subst (λ (o : Option (List ℕ)). IfSome o (λ l. LONGEST_INPUT < length l)) told longer
 
 -- an answer that was written whole, and none for want of memory
 answered_done : (task : Task) → IsWrittenWhole task Done
@@ -61,7 +62,7 @@ module _ (one : ScriptsAreOne) (bundles : BundlesAreOne) (may_refuse : Bool → 
     pub bundle : status ≡ Bundle → IsUnloaded task before after
     pub too_many : status ≡ TooMany → IsCrowded conf task before after
     pub pattern : status ≡ Pattern → IsUnsearchable may_refuse conf task before after
-    pub longer : status ≡ TooLong → IfSome before (λ left. longest_input < length left)
+    pub longer : status ≡ TooLong → IfSome before (λ left. LONGEST_INPUT < length left)
     pub read_fault : status ≡ ReadFault → Rose reads_before reads_after
     pub write_fault : status ≡ WriteFault → Rose writes_before writes_after
 
@@ -73,10 +74,10 @@ module _ (one : ScriptsAreOne) (bundles : BundlesAreOne) (may_refuse : Bool → 
       subst P other s.has
 
   -- it is short, and it spells some
-  some_of : (P : List (List Step) → Type 0) (input : List ℕ) → before ≡ Some input → Spelled task before after P → (length input ≤ longest_input) × ((scripts : List (List Step)) × Spells task input scripts)
+  some_of : (P : List (List Step) → Type 0) (input : List ℕ) → before ≡ Some input → Spelled task before after P → (length input ≤ LONGEST_INPUT) × ((scripts : List (List Step)) × Spells task input scripts)
   some_of P input told s =
       let same = was_read input s.input before after told s.read in
-      (subst (λ (i : List ℕ). length i ≤ longest_input) (sym same) s.read.short, (s.scripts, subst (λ (i : List ℕ). Spells task i s.scripts) (sym same) s.spelled))
+      (subst (λ (i : List ℕ). length i ≤ LONGEST_INPUT) (sym same) s.read.short, (s.scripts, subst (λ (i : List ℕ). Spells task i s.scripts) (sym same) s.spelled))
 
   of_crowded : IsCrowded conf task before after → Spelled task before after (AreTooMany (bundle_of task) conf)
   of_crowded c = record { input = c.input; scripts = c.scripts; read = c.read; spelled = c.spelled; has = c.many }
@@ -87,17 +88,17 @@ module _ (one : ScriptsAreOne) (bundles : BundlesAreOne) (may_refuse : Bool → 
   of_unsearchable : IsUnsearchable may_refuse conf task before after → Spelled task before after FewRefusable
   of_unsearchable u = record { input = u.input; scripts = u.scripts; read = u.read; spelled = u.spelled; has = (u.few, u.refusable) }
 
-  refused_is : (input : List ℕ) → before ≡ Some input → IsRefused task before after → (length input ≤ longest_input) × SpellsNone task input
+  refused_is : (input : List ℕ) → before ≡ Some input → IsRefused task before after → (length input ≤ LONGEST_INPUT) × SpellsNone task input
   refused_is input told r =
       let same = was_read input r.at.input before after told r.at.read in
-      (subst (λ (i : List ℕ). length i ≤ longest_input) (sym same) r.at.read.short, subst (SpellsNone task) (sym same) r.at.nothing)
+      (subst (λ (i : List ℕ). length i ≤ LONGEST_INPUT) (sym same) r.at.read.short, subst (SpellsNone task) (sym same) r.at.nothing)
 
-  unloaded_is : (input : List ℕ) → before ≡ Some input → IsUnloaded task before after → (length input ≤ longest_input) × LacksBundle task input
+  unloaded_is : (input : List ℕ) → before ≡ Some input → IsUnloaded task before after → (length input ≤ LONGEST_INPUT) × LacksBundle task input
   unloaded_is input told r =
       let same = was_read input r.at.input before after told r.at.read in
-      (subst (λ (i : List ℕ). length i ≤ longest_input) (sym same) r.at.read.short, subst (LacksBundle task) (sym same) r.at.nothing)
+      (subst (λ (i : List ℕ). length i ≤ LONGEST_INPUT) (sym same) r.at.read.short, subst (LacksBundle task) (sym same) r.at.nothing)
 
-  done_by : (status : Status) → Ended status → (input : List ℕ) (scripts : List (List Step)) → before ≡ Some input → length input ≤ longest_input → Spells task input scripts
+  done_by : (status : Status) → Ended status → (input : List ℕ) (scripts : List (List Step)) → before ≡ Some input → length input ≤ LONGEST_INPUT → Spells task input scripts
       → AreFew (bundle_of task) conf scripts → ¬ SomeRefusable may_refuse scripts → ¬ Rose reads_before reads_after → ¬ Rose writes_before writes_after → IsWrittenWhole task status
   done_by Done e input scripts told short are few plain no_read no_write = answered_done task
   done_by Usage e input scripts told short are few plain no_read no_write = absurd (e.usage refl)
@@ -111,7 +112,7 @@ module _ (one : ScriptsAreOne) (bundles : BundlesAreOne) (may_refuse : Bool → 
   done_by Differs e input scripts told short are few plain no_read no_write = (e.differs refl).1
   done_by Bundle e input scripts told short are few plain no_read no_write = absurd (loaded_spelled task input scripts are (unloaded_is input told (e.bundle refl)).1)
 
-  too_many_by : (status : Status) → Ended status → (input : List ℕ) (scripts : List (List Step)) → before ≡ Some input → length input ≤ longest_input → Spells task input scripts
+  too_many_by : (status : Status) → Ended status → (input : List ℕ) (scripts : List (List Step)) → before ≡ Some input → length input ≤ LONGEST_INPUT → Spells task input scripts
       → AreTooMany (bundle_of task) conf scripts → ¬ Rose reads_before reads_after → IsUnlessMemory TooMany status
   too_many_by Done e input scripts told short are many no_read = absurd (few_many (bundle_of task) conf scripts (of_them (AreFew (bundle_of task) conf) input scripts told are (e.done refl)) many)
   too_many_by Usage e input scripts told short are many no_read = absurd (e.usage refl)
@@ -125,7 +126,7 @@ module _ (one : ScriptsAreOne) (bundles : BundlesAreOne) (may_refuse : Bool → 
   too_many_by Differs e input scripts told short are many no_read = absurd (few_many (bundle_of task) conf scripts (of_them (AreFew (bundle_of task) conf) input scripts told are (e.differs refl).0) many)
   too_many_by Bundle e input scripts told short are many no_read = absurd (loaded_spelled task input scripts are (unloaded_is input told (e.bundle refl)).1)
 
-  refused_by : (status : Status) → Ended status → (input : List ℕ) → before ≡ Some input → length input ≤ longest_input → SpellsNone task input → ¬ Rose reads_before reads_after → IsUnlessMemory Script status
+  refused_by : (status : Status) → Ended status → (input : List ℕ) → before ≡ Some input → length input ≤ LONGEST_INPUT → SpellsNone task input → ¬ Rose reads_before reads_after → IsUnlessMemory Script status
   refused_by Done e input told short none no_read = let s = some_of (AreFew (bundle_of task) conf) input told (e.done refl) in absurd (none_spelled task input s.1.0 s.1.1 none)
   refused_by Usage e input told short none no_read = absurd (e.usage refl)
   refused_by Script e input told short none no_read = inl refl
@@ -138,7 +139,7 @@ module _ (one : ScriptsAreOne) (bundles : BundlesAreOne) (may_refuse : Bool → 
   refused_by Differs e input told short none no_read = let s = some_of (AreFew (bundle_of task) conf) input told (e.differs refl).0 in absurd (none_spelled task input s.1.0 s.1.1 none)
   refused_by Bundle e input told short none no_read = absurd (loaded_none task input none (unloaded_is input told (e.bundle refl)).1)
 
-  unloaded_by : (status : Status) → Ended status → (input : List ℕ) → before ≡ Some input → length input ≤ longest_input → LacksBundle task input → ¬ Rose reads_before reads_after → IsUnlessMemory Bundle status
+  unloaded_by : (status : Status) → Ended status → (input : List ℕ) → before ≡ Some input → length input ≤ LONGEST_INPUT → LacksBundle task input → ¬ Rose reads_before reads_after → IsUnlessMemory Bundle status
   unloaded_by Done e input told short none no_read = let s = some_of (AreFew (bundle_of task) conf) input told (e.done refl) in absurd (loaded_spelled task input s.1.0 s.1.1 none)
   unloaded_by Usage e input told short none no_read = absurd (e.usage refl)
   unloaded_by Script e input told short none no_read = absurd (loaded_none task input (refused_is input told (e.script refl)).1 none)
@@ -151,7 +152,7 @@ module _ (one : ScriptsAreOne) (bundles : BundlesAreOne) (may_refuse : Bool → 
   unloaded_by Differs e input told short none no_read = let s = some_of (AreFew (bundle_of task) conf) input told (e.differs refl).0 in absurd (loaded_spelled task input s.1.0 s.1.1 none)
   unloaded_by Bundle e input told short none no_read = inl refl
 
-  too_long_by : (status : Status) → Ended status → (input : List ℕ) → before ≡ Some input → longest_input < length input → ¬ Rose reads_before reads_after → IsUnlessMemory TooLong status
+  too_long_by : (status : Status) → Ended status → (input : List ℕ) → before ≡ Some input → LONGEST_INPUT < length input → ¬ Rose reads_before reads_after → IsUnlessMemory TooLong status
   too_long_by Done e input told long no_read = let s = (some_of (AreFew (bundle_of task) conf) input told (e.done refl)).0 in absurd (omega arith)
   too_long_by Usage e input told long no_read = absurd (e.usage refl)
   too_long_by Script e input told long no_read = let s = (refused_is input told (e.script refl)).0 in absurd (omega arith)

@@ -12,6 +12,7 @@ use Rattle.script_read.specs.Clock.{all_timed}
 use Rattle.run_verify.specs.declared.verifying.Verdict.{Verdict}
 use Rattle.run_verify.specs.declared.verifying.Verdict.TheVariants.{Yes, NoJournal, Event, Byte}
 use Rattle.run_verify.specs.Verdicts.{verdict_of}
+use Rattle.apcu_model.specs.declared.limits.TheConstants.{LONGEST_INPUT}
 use Rattle.apcu_play.specs.declared.status.Status.{Status}
 use Rattle.apcu_play.specs.declared.status.Status.TheVariants.{Done, WriteFault, Differs}
 use Rattle.apcu_play.specs.Causes.{AnswersBytes}
@@ -19,7 +20,7 @@ use Rattle.apcu_play.specs.Ended.{Sourced, Sunk, IsEnding}
 use Rattle.apcu_play.specs.Inputs.{AreCrew, AreFew, AreInFront}
 use Rattle.apcu_play.specs.Printing.{PrintsCrew, PrintsVerdict}
 use Rattle.apcu_play.specs.Run.{WasWritten}
-use Rattle.apcu_play.specs.Tasks.{longest_input, AnswersTask, LeavesInput, WasRead, ending_for}
+use Rattle.apcu_play.specs.Tasks.{AnswersTask, LeavesInput, WasRead, ending_for}
 use Rattle.apcu_play.proofs.TakenInput.{was_taken, none_taken}
 
 verdict_ends : (v : Verdict) (ends : Status) → ends ≡ ending_for v → (ends ≡ Done) ⊎ (ends ≡ Differs)
@@ -36,10 +37,10 @@ ends_two s (Verify len) ends before after printed a = verdict_ends a.verdict end
 
 -- what was taken for it
 pub answered_within : (s : Settings) (task : Task) (ends status : Status) (before after : Option (List ℕ)) (reads_before reads_after : ℕ) (printed : List ℕ) → AnswersTask s task ends before after printed
-    → LeavesInput task status before after reads_before reads_after → HasTakenWithin before after longest_input
+    → LeavesInput task status before after reads_before reads_after → HasTakenWithin before after LONGEST_INPUT
 answered_within s (Play bundle map) ends status before after reads_before reads_after printed a unread = was_taken before after a.1.input a.1.read
 answered_within s (Generate seed crew each) ends status before after reads_before reads_after printed a unread =
-    subst (λ o. HasTakenWithin before o longest_input) (sym unread.left) (none_taken before longest_input)
+    subst (λ o. HasTakenWithin before o LONGEST_INPUT) (sym unread.left) (none_taken before LONGEST_INPUT)
 answered_within s (Verify len) ends status before after reads_before reads_after printed a unread = was_taken before after a.input a.read
 
 -- it was written whole

@@ -3,6 +3,7 @@ use Rattle.std.proofs.Common.{◌≡◌, ◌≢◌, ◌<◌, ◌≤◌, ℕ, Lis
 use Rattle.std.specs.Prelude.{Bool, IfSome}
 use Rattle.io_edges.specs.Faults.{Rose}
 use Rattle.apcu_model.specs.declared.conf.Conf.{Conf}
+use Rattle.apcu_model.specs.declared.limits.TheConstants.{LONGEST_INPUT}
 use Rattle.conf_read.specs.declared.settings.Settings.{Settings}
 use Rattle.conf_read.specs.declared.task.Task.{Task}
 use Rattle.conf_read.specs.declared.task.Task.TheVariants.{Play, Generate, Verify}
@@ -17,7 +18,7 @@ use Rattle.apcu_play.specs.declared.status.Status.{Status}
 use Rattle.apcu_play.specs.declared.status.Status.TheVariants.{Done, Usage, Script, ReadFault, WriteFault, NoMemory, TooLong, TooMany, Pattern, Differs, Bundle}
 use Rattle.apcu_play.specs.Ended.{Sourced, Sunk, RunHasEnded}
 use Rattle.apcu_play.specs.Inputs.{AreFew}
-use Rattle.apcu_play.specs.Tasks.{longest_input, AnswersInput, AnswersOutput, AnswersTask, AnswersSeed, IsRefused, IsRefusedAt, IsUnloaded, IsUnloadedAt, IsCrowdedTask, IsUnsearchable, IsUnread, LeavesInput, generated_events}
+use Rattle.apcu_play.specs.Tasks.{AnswersInput, AnswersOutput, AnswersTask, AnswersSeed, IsRefused, IsRefusedAt, IsUnloaded, IsUnloadedAt, IsCrowdedTask, IsUnsearchable, IsUnread, LeavesInput, generated_events}
 use Rattle.apcu_play.specs.Message.{script_message, bundle_message}
 use Rattle.apcu_play.specs.Run.{WritesAll, WritesPart, IsUnlessMemory, CompletesSeed, CompletesTask, Completes, TellsMessage, TellsRefusal, TellsUnloaded}
 use Rattle.apcu_play.proofs.InputOutcomes.{Spelled, completes}
@@ -83,7 +84,7 @@ completes_for : (one : ScriptsAreOne) (bundles : BundlesAreOne) (may_refuse : Bo
     → (status ≡ Bundle → IsUnloaded task before after)
     → (status ≡ TooMany → IsCrowdedTask s.conf task before after)
     → (status ≡ Pattern → IsUnsearchable may_refuse s.conf task before after)
-    → (status ≡ TooLong → IfSome before (λ left. longest_input < length left))
+    → (status ≡ TooLong → IfSome before (λ left. LONGEST_INPUT < length left))
     → (status ≡ ReadFault → Rose reads_before reads_after)
     → LeavesInput task status before after reads_before reads_after
     → (status ≡ WriteFault → Rose writes_before writes_after)

@@ -3,6 +3,7 @@ use Rattle.std.specs.Prelude.{◌≡◌, Bool, ℕ, ◌+◌, ◌<◌, List, leng
 use Rattle.io_edges.specs.Faults.{Rose}
 use Rattle.io_edges.specs.Reading.{HasTaken, HasTakenWithin}
 use Rattle.apcu_model.specs.declared.conf.Conf.{Conf}
+use Rattle.apcu_model.specs.declared.limits.TheConstants.{LONGEST_INPUT}
 use Rattle.conf_read.specs.declared.settings.Settings.{Settings}
 use Rattle.conf_read.specs.declared.task.Task.{Task}
 use Rattle.notation.specs.declared.fault.Reason.{Reason}
@@ -16,7 +17,7 @@ use Rattle.apcu_play.specs.declared.status.Status.{Status}
 use Rattle.apcu_play.specs.declared.status.Status.TheVariants.{Done, Usage, Script, ReadFault}
 use Rattle.apcu_play.specs.declared.status.Status.TheVariants.{WriteFault, NoMemory, TooLong}
 use Rattle.apcu_play.specs.declared.status.Status.TheVariants.{TooMany, Pattern, Differs, Bundle}
-use Rattle.apcu_play.specs.Tasks.{longest_input, WasRead, AnswersTask, IsRefusedAt, IsUnloadedAt}
+use Rattle.apcu_play.specs.Tasks.{WasRead, AnswersTask, IsRefusedAt, IsUnloadedAt}
 use Rattle.apcu_play.specs.Tasks.{IsCrowdedTask, IsUnsearchable}
 
 -- the cause of each status with which a run may end before it has anything to print
@@ -25,12 +26,12 @@ abbrev pub IsCause : (Bool → List ℕ → Type 0) → Conf → Task → Option
 IsCause may_refuse conf task before after faults_before faults_after Script place reason =
     IsRefusedAt task before after place reason
 IsCause may_refuse conf task before after faults_before faults_after ReadFault place reason =
-    HasTakenWithin before after longest_input × Rose faults_before faults_after
+    HasTakenWithin before after LONGEST_INPUT × Rose faults_before faults_after
 IsCause may_refuse conf task before after faults_before faults_after NoMemory place reason =
-    HasTakenWithin before after longest_input
+    HasTakenWithin before after LONGEST_INPUT
 IsCause may_refuse conf task before after faults_before faults_after TooLong place reason =
-    HasTaken before after (longest_input + 1)
-    × IfSome before (λ left. longest_input < length left)
+    HasTaken before after (LONGEST_INPUT + 1)
+    × IfSome before (λ left. LONGEST_INPUT < length left)
 IsCause may_refuse conf task before after faults_before faults_after TooMany place reason =
     IsCrowdedTask conf task before after
 IsCause may_refuse conf task before after faults_before faults_after Pattern place reason =

@@ -4,6 +4,7 @@ use Rattle.io_edges.specs.Faults.{Rose}
 use Rattle.io_edges.specs.Reading.{HasTaken, HasTakenWithin}
 use Rattle.conf_read.specs.declared.settings.Settings.{Settings}
 use Rattle.notation.specs.declared.fault.Reason.{Reason}
+use Rattle.apcu_model.specs.declared.limits.TheConstants.{LONGEST_INPUT}
 use Rattle.apcu_play.specs.declared.ending.Ending.{Ending}
 use Rattle.apcu_play.specs.declared.status.Status.{Status}
 use Rattle.apcu_play.specs.declared.status.Status.TheVariants.{Done, Usage, Script, ReadFault}
@@ -11,7 +12,7 @@ use Rattle.apcu_play.specs.declared.status.Status.TheVariants.{WriteFault, NoMem
 use Rattle.apcu_play.specs.declared.status.Status.TheVariants.{TooMany, Pattern, Differs, Bundle}
 use Rattle.apcu_play.specs.Causes.{IsCause}
 use Rattle.apcu_play.specs.Run.{IsUnlessMemory, Replays, ReplaysPart}
-use Rattle.apcu_play.specs.Tasks.{longest_input, IsRefusedAt, IsUnloadedAt, IsCrowdedTask}
+use Rattle.apcu_play.specs.Tasks.{IsRefusedAt, IsUnloadedAt, IsCrowdedTask}
 use Rattle.apcu_play.specs.Tasks.{IsUnsearchable, LeavesInput}
 
 -- a source before and after a run: what it has left, and its count of faults
@@ -66,8 +67,8 @@ IsEnding may_refuse s input out ReadFault place reason =
     Rose input.reads_before input.reads_after × IsUnwritten out
 IsEnding may_refuse s input out NoMemory place reason = IsUnwritten out
 IsEnding may_refuse s input out TooLong place reason =
-    HasTaken input.before input.after (longest_input + 1)
-    × IfSome input.before (λ left. longest_input < length left)
+    HasTaken input.before input.after (LONGEST_INPUT + 1)
+    × IfSome input.before (λ left. LONGEST_INPUT < length left)
     × IsUnwritten out
 IsEnding may_refuse s input out TooMany place reason =
     IsCrowdedTask s.conf s.task input.before input.after × IsUnwritten out
@@ -93,11 +94,11 @@ pub record RunHasEnded (may_refuse : Bool → List ℕ → Type 0) (parsed : Opt
   pub pattern : IfSome parsed (λ s. ending.status ≡ Pattern
       → IsUnsearchable may_refuse s.conf s.task input.before input.after)
   pub too_long : ending.status ≡ TooLong
-      → HasTaken input.before input.after (longest_input + 1)
+      → HasTaken input.before input.after (LONGEST_INPUT + 1)
   pub longer : ending.status ≡ TooLong
-      → IfSome input.before (λ left. longest_input < length left)
+      → IfSome input.before (λ left. LONGEST_INPUT < length left)
   pub within : ending.status ≢ TooLong
-      → HasTakenWithin input.before input.after longest_input
+      → HasTakenWithin input.before input.after LONGEST_INPUT
   pub read_fault : ending.status ≡ ReadFault → Rose input.reads_before input.reads_after
   pub unread : IfSome parsed (λ s. LeavesInput s.task ending.status
       input.before input.after input.reads_before input.reads_after)

@@ -3,6 +3,7 @@ use Rattle.std.specs.Prelude.{◌≡◌, ◌⊎◌, ℕ, ◌+◌, ◌<◌, ◌�
 use Rattle.std.specs.Prelude.{Bool, Option, Some, None}
 use Rattle.apcu_model.specs.declared.conf.Conf.{Conf}
 use Rattle.apcu_model.specs.declared.journal.Mark.{Mark}
+use Rattle.apcu_model.specs.declared.limits.TheConstants.{MOST_WORKERS}
 use Rattle.conf_read.specs.declared.task.Task.{Task}
 use Rattle.conf_read.specs.declared.task.Task.TheVariants.{Play, Generate, Verify}
 use Rattle.notation.specs.declared.fault.Reason.{Reason}
@@ -45,16 +46,18 @@ Spells (Verify len) input scripts = AreInFront len input scripts
 
 -- ---- how many
 
--- The calls, with each worker's end, may make too many events; or a loader stands beside 64
--- scripts.
+-- The calls, with each worker's end, may make too many events; or a loader stands beside
+-- `MOST_WORKERS` scripts.
 abbrev pub AreTooMany : Option ℕ → Conf → List (List Step) → Type 0
 AreTooMany None conf crew = most_events < all_events conf.slots crew
-AreTooMany (Some len) conf crew = (most_events < all_events conf.slots crew) ⊎ (64 < length crew)
+AreTooMany (Some len) conf crew =
+    (most_events < all_events conf.slots crew) ⊎ (MOST_WORKERS < length crew)
 
 -- they may not
 abbrev pub AreFew : Option ℕ → Conf → List (List Step) → Type 0
 AreFew None conf crew = all_events conf.slots crew ≤ most_events
-AreFew (Some len) conf crew = (all_events conf.slots crew ≤ most_events) × (length crew ≤ 64)
+AreFew (Some len) conf crew =
+    (all_events conf.slots crew ≤ most_events) × (length crew ≤ MOST_WORKERS)
 
 -- the scripts of a task that is no play are judged by their events alone
 abbrev pub bundle_of : Task → Option ℕ

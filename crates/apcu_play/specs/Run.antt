@@ -5,6 +5,7 @@ use Rattle.std.specs.Prelude.{Some}
 use Rattle.std.specs.Io.KnownBytes.{append_known}
 use Rattle.io_edges.specs.Faults.{Rose}
 use Rattle.apcu_model.specs.declared.conf.Conf.{Conf}
+use Rattle.apcu_model.specs.declared.limits.TheConstants.{LONGEST_INPUT}
 use Rattle.conf_read.specs.declared.settings.Settings.{Settings}
 use Rattle.conf_read.specs.declared.task.Task.{Task}
 use Rattle.conf_read.specs.declared.task.Task.TheVariants.{Play, Generate, Verify}
@@ -17,7 +18,7 @@ use Rattle.apcu_play.specs.Message.{script_message, bundle_message}
 use Rattle.script_read.specs.Budgets.{most_events}
 use Rattle.script_read.specs.Patterns.{SomeRefusable}
 use Rattle.apcu_play.specs.Inputs.{AreTooMany, AreFew, Spells, SpellsNone, LacksBundle, bundle_of}
-use Rattle.apcu_play.specs.Tasks.{longest_input, AnswersTask, IsRefusedAt, IsUnloadedAt}
+use Rattle.apcu_play.specs.Tasks.{AnswersTask, IsRefusedAt, IsUnloadedAt}
 use Rattle.apcu_play.specs.Tasks.{generated_events}
 
 -- ---- what is written
@@ -113,25 +114,25 @@ pub record CompletesInput
     (left_before : Option (List ℕ)) (reads_before reads_after writes_before writes_after : ℕ)
     : Type 0 where
   pub done : (input : List ℕ) (scripts : List (List Step))
-      → left_before ≡ Some input → length input ≤ longest_input → Spells task input scripts
+      → left_before ≡ Some input → length input ≤ LONGEST_INPUT → Spells task input scripts
       → AreFew (bundle_of task) conf scripts → ¬ SomeRefusable may_refuse scripts
       → ¬ Rose reads_before reads_after → ¬ Rose writes_before writes_after
       → IsWrittenWhole task status
   pub too_many : (input : List ℕ) (scripts : List (List Step))
-      → left_before ≡ Some input → length input ≤ longest_input → Spells task input scripts
+      → left_before ≡ Some input → length input ≤ LONGEST_INPUT → Spells task input scripts
       → AreTooMany (bundle_of task) conf scripts
       → ¬ Rose reads_before reads_after
       → IsUnlessMemory TooMany status
   pub refused : (input : List ℕ)
-      → left_before ≡ Some input → length input ≤ longest_input → SpellsNone task input
+      → left_before ≡ Some input → length input ≤ LONGEST_INPUT → SpellsNone task input
       → ¬ Rose reads_before reads_after
       → IsUnlessMemory Script status
   pub unloaded : (input : List ℕ)
-      → left_before ≡ Some input → length input ≤ longest_input → LacksBundle task input
+      → left_before ≡ Some input → length input ≤ LONGEST_INPUT → LacksBundle task input
       → ¬ Rose reads_before reads_after
       → IsUnlessMemory Bundle status
   pub too_long : (input : List ℕ)
-      → left_before ≡ Some input → longest_input < length input
+      → left_before ≡ Some input → LONGEST_INPUT < length input
       → ¬ Rose reads_before reads_after
       → IsUnlessMemory TooLong status
 

@@ -6,6 +6,7 @@ use Rattle.std.specs.Fmt.{decimal}
 use Rattle.std.specs.Io.KnownBytes.{prepend_known, IsAtEnd}
 use Rattle.apcu_model.specs.declared.conf.Conf.{Conf}
 use Rattle.apcu_model.specs.declared.journal.Mark.{Mark}
+use Rattle.apcu_model.specs.declared.limits.TheConstants.{LONGEST_INPUT}
 use Rattle.conf_read.specs.declared.settings.Settings.{Settings}
 use Rattle.conf_read.specs.declared.task.Task.{Task}
 use Rattle.conf_read.specs.declared.task.Task.TheVariants.{Play, Generate, Verify}
@@ -32,15 +33,11 @@ use Rattle.apcu_play.specs.Inputs.{LacksBundle, IsFirstInputFault, IsFirstBundle
 
 -- ---- the input
 
--- the most bytes of input
-abbrev pub longest_input : ℕ
-longest_input = 67108864
-
 -- the input was read to its end, and is not too long
 pub record WasRead (left_before left_after : Option (List ℕ)) (input : List ℕ) : Type 0 where
   pub taken : left_before ≡ prepend_known input left_after
   pub whole : IsAtEnd left_after
-  pub short : length input ≤ longest_input
+  pub short : length input ≤ LONGEST_INPUT
 
 -- nothing was read, and nothing is told that only a read brings
 pub record IsUnread (status : Status) (left_before left_after : Option (List ℕ))

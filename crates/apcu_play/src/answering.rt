@@ -1,13 +1,14 @@
 //! What a run is asked for, gathered before anything is printed.
 
 ghost use Rattle.std.specs.Prelude.{◌≡◌, ◌⊎◌, ◌<◌, ◌≤◌, ◌++◌, length, IfOk, IfErr};
+ghost use Rattle.apcu_model.specs.declared.limits.TheConstants.{LONGEST_INPUT};
 ghost use Rattle.apcu_model.specs.Conf.{IsGood};
 ghost use Rattle.conf_read.specs.declared.task.Task.TheVariants.{Play, Verify};
 ghost use Rattle.conf_read.specs.Tasks.{SuitsTask};
 ghost use Rattle.reply_text.specs.Output.{worker_texts};
 ghost use Rattle.script_read.specs.Budgets.{most_events};
 ghost use Rattle.apcu_play.specs.Causes.{AnswersBytes, IsCause, IsCauseIn, status_for};
-ghost use Rattle.apcu_play.specs.Tasks.{longest_input, AnswersSeed, AnswersTask};
+ghost use Rattle.apcu_play.specs.Tasks.{AnswersSeed, AnswersTask};
 ghost use Rattle.apcu_play.specs.Tasks.{LeavesInput, generated_events};
 
 use crate::ending::Ending;
@@ -48,7 +49,7 @@ fn answer_input<R: Threads + Wait + Sync, M: Maker + Sync, G: Gate + Sync>(
     gate: &G,
 ) -> Result<Printed, Ending>
     requires good { IsGood settings.now.conf }
-    requires short { length bytes.now ≤ longest_input }
+    requires short { length bytes.now ≤ LONGEST_INPUT }
     ensures answer { IfOk result (λ p. AnswersBytes settings.now (Play preload map) bytes.now
         p.ends (worker_texts 0 p.texts.items ++ p.rest)) }
     ensures cause { IfErr result (IsCauseIn (M.may_refuse maker.now) settings.now.conf
@@ -74,7 +75,7 @@ fn answer_output<M: Maker>(
     maker: &M,
 ) -> Result<Printed, Ending>
     requires good { IsGood settings.now.conf }
-    requires short { length bytes.now ≤ longest_input }
+    requires short { length bytes.now ≤ LONGEST_INPUT }
     ensures answer { IfOk result (λ p. AnswersBytes settings.now (Verify len) bytes.now
         p.ends (worker_texts 0 p.texts.items ++ p.rest)) }
     ensures cause { IfErr result (IsCauseIn (M.may_refuse maker.now) settings.now.conf

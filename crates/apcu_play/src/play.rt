@@ -2,6 +2,7 @@
 
 ghost use Rattle.std.specs.Prelude.{◌≡◌, ◌≢◌, ◌<◌, ◌≤◌, ◌++◌, length, IfOk, IfErr, IfSome, OnOk};
 ghost use Rattle.seg_words.specs.contracts.vec_words.VecWordsWordsIn.TheImpl as held;
+ghost use Rattle.apcu_model.specs.declared.limits.TheConstants.{MOST_WORKERS};
 ghost use Rattle.apcu_model.specs.Conf.{IsGood};
 ghost use Rattle.cache_core.specs.CoreCache.{CacheStands};
 ghost use Rattle.script_read.specs.Budgets.{all_events, most_events};
@@ -123,7 +124,7 @@ pub(crate) fn watch<R: Threads + Wait + Sync, M: Maker + Sync, G: Gate + Sync>(
 ) -> Result<Printed, CrewFault>
     requires large { IsLarge conf.now }
     requires some { 1 ≤ workers }
-    requires most { workers ≤ 64 }
+    requires most { workers ≤ MOST_WORKERS }
     requires short { calls ≤ 1000000 }
     ensures answer { IfOk result (λ p. AnswersSeed conf.now seed workers calls
         (worker_texts 0 p.texts.items ++ p.rest)) }

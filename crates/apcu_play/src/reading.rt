@@ -2,22 +2,21 @@
 
 ghost use Rattle.std.specs.Prelude.{◌≡◌, ◌≤◌, Bool, length, drop, IfOk, IfErr, Some};
 ghost use Rattle.apcu_model.specs.declared.conf.Conf.{Conf};
+ghost use Rattle.apcu_model.specs.declared.limits.TheConstants.{LONGEST_INPUT, MOST_WORKERS};
 ghost use Rattle.conf_read.specs.declared.task.Task.{Task};
 ghost use Rattle.conf_read.specs.declared.task.Task.TheVariants.{Play, Verify};
 ghost use Rattle.apcu_play.specs.Causes.{IsCause, IsCauseIn, refuses_none};
 ghost use Rattle.apcu_play.specs.Inputs.{AreCrew, AreInFront, AreLoaded};
-ghost use Rattle.apcu_play.specs.Tasks.{longest_input, WasRead};
+ghost use Rattle.apcu_play.specs.Tasks.{WasRead};
 
 use crate::ending::{Ending, ending_by};
 use crate::status::Status;
+use apcu_model::{LONGEST_INPUT, MOST_WORKERS};
 use io_edges::{ReadError, Source, read_all};
 use notation::Reason;
 use preload_set::{loader, read_front, readings_are_bundles};
 use script_read::{ScriptFault, Scripts, read_scripts};
 use std::alloc::Global;
-
-// The most bytes of input.
-const LONGEST_INPUT: usize = 67_108_864;
 
 /// The whole input.
 pub(crate) fn input_of<S: Source>(alloc: Global, input: &mut S) -> Result<Vec<u8>, Ending>
@@ -27,7 +26,7 @@ pub(crate) fn input_of<S: Source>(alloc: Global, input: &mut S) -> Result<Vec<u8
         IsCause refuses_none conf task (S.left input.old) (S.left input.new)
         (S.faults input.old) (S.faults input.new) e.status e.place e.reason) }
 {
-    match read_all(alloc, input, LONGEST_INPUT) {
+    match read_all(alloc, input, LONGEST_INPUT as usize) {
         Ok(bytes) => Ok(bytes),
         Err(ReadError::Memory) => Err(Ending::of(Status::NoMemory)),
         Err(ReadError::Fault) => Err(Ending::of(Status::ReadFault)),
@@ -37,9 +36,9 @@ pub(crate) fn input_of<S: Source>(alloc: Global, input: &mut S) -> Result<Vec<u8
 
 // The crew of scripts behind a bundle of so many bytes: these, and the bundle's loader.
 fn loaded_crew(alloc: Global, bytes: &[u8], len: u64) -> Result<Scripts, Ending>
-    requires short { length bytes.now ≤ longest_input }
+    requires short { length bytes.now ≤ LONGEST_INPUT }
     ensures crew { IfOk result (λ crew. AreLoaded len bytes.now crew) }
-    ensures most { IfOk result (λ crew. length crew ≤ 64) }
+    ensures most { IfOk result (λ crew. length crew ≤ MOST_WORKERS) }
     ensures cause { (conf : Conf) (map : Bool)
         → IfErr result (IsCauseIn refuses_none conf (Play (Some len) map) bytes.now) }
 {
@@ -52,7 +51,7 @@ fn loaded_crew(alloc: Global, bytes: &[u8], len: u64) -> Result<Scripts, Ending>
         Ok(scripts) => scripts,
         Err(fault) => return Err(ending_by(Status::Script, len, &fault)),
     };
-    if scripts.len() >= 64 {
+    if scripts.len() >= MOST_WORKERS {
         return Err(Ending::of(Status::TooMany));
     }
     let Ok(loader) = loader(alloc, &bundle) else {
@@ -67,9 +66,9 @@ fn loaded_crew(alloc: Global, bytes: &[u8], len: u64) -> Result<Scripts, Ending>
 /// The crew of a play: the scripts that the input spells, and behind them the loader of a bundle of
 /// so many bytes, if one stands in front of them.
 pub(crate) fn crew_of(alloc: Global, bytes: &[u8], preload: Option<u64>) -> Result<Scripts, Ending>
-    requires short { length bytes.now ≤ longest_input }
+    requires short { length bytes.now ≤ LONGEST_INPUT }
     ensures crew { IfOk result (λ crew. AreCrew preload bytes.now crew) }
-    ensures most { IfOk result (λ crew. length crew ≤ 64) }
+    ensures most { IfOk result (λ crew. length crew ≤ MOST_WORKERS) }
     ensures cause { (conf : Conf) (map : Bool)
         → IfErr result (IsCauseIn refuses_none conf (Play preload map) bytes.now) }
 {
@@ -101,7 +100,7 @@ pub(crate) fn scripts_in_front(
     bytes: &[u8],
     len: u64,
 ) -> Result<(Scripts, &[u8]), Ending>
-    requires short { length bytes.now ≤ longest_input }
+    requires short { length bytes.now ≤ LONGEST_INPUT }
     ensures scripts { IfOk result (λ x. AreInFront len bytes.now x.0) }
     ensures behind { IfOk result (λ x. x.1.now ≡ drop len bytes.now) }
     ensures cause { (conf : Conf)

@@ -3,12 +3,13 @@
 ghost use Rattle.std.specs.Prelude.{◌≡◌, ◌≢◌, ◌+◌, ◌<◌, ◌≤◌, length, None, IfSome};
 ghost use Rattle.io_edges.specs.Faults.{Rose};
 ghost use Rattle.io_edges.specs.Reading.{HasTaken, HasTakenWithin};
+ghost use Rattle.apcu_model.specs.declared.limits.TheConstants.{LONGEST_INPUT};
 ghost use Rattle.apcu_model.specs.Conf.{IsGood};
 ghost use Rattle.conf_read.specs.Options.{settings_of};
 ghost use Rattle.conf_read.specs.Tasks.{SuitsTask};
 ghost use Rattle.apcu_play.specs.Ended.{sourced, sunk, IsEnding, RunHasEnded};
 ghost use Rattle.apcu_play.specs.Message.{message_of};
-ghost use Rattle.apcu_play.specs.Tasks.{longest_input, IsRefused, IsUnloaded, IsCrowdedTask};
+ghost use Rattle.apcu_play.specs.Tasks.{IsRefused, IsUnloaded, IsCrowdedTask};
 ghost use Rattle.apcu_play.specs.Tasks.{IsUnsearchable, LeavesInput};
 ghost use Rattle.apcu_play.specs.Run.{Replays, ReplaysPart, TellsMessage, TellsRefusal};
 ghost use Rattle.apcu_play.specs.Run.{TellsUnloaded, IsUnlessMemory, Completes};
@@ -43,7 +44,7 @@ fn outcome_on<R: Threads + Wait + Sync, S: Source, K: Sink, M: Maker + Sync, G: 
         (sunk (K.held out.old) (K.held out.new) (K.faults out.old) (K.faults out.new))
         result.status result.place result.reason }
     ensures within { result.status ≢ Status.TooLong
-        → HasTakenWithin (S.left input.old) (S.left input.new) longest_input }
+        → HasTakenWithin (S.left input.old) (S.left input.new) LONGEST_INPUT }
     ensures unread { LeavesInput settings.now.task result.status
         (S.left input.old) (S.left input.new) (S.faults input.old) (S.faults input.new) }
 {
@@ -133,11 +134,11 @@ pub fn run<R: Threads + Wait + Sync, S: Source, K: Sink, E: Sink, M: Maker + Syn
         → IsUnsearchable (M.may_refuse maker.now) s.conf s.task
         (S.left input.old) (S.left input.new)) }
     ensures too_long { result ≡ Status.TooLong
-        → HasTaken (S.left input.old) (S.left input.new) (longest_input + 1) }
+        → HasTaken (S.left input.old) (S.left input.new) (LONGEST_INPUT + 1) }
     ensures longer { result ≡ Status.TooLong
-        → IfSome (S.left input.old) (λ left. longest_input < length left) }
+        → IfSome (S.left input.old) (λ left. LONGEST_INPUT < length left) }
     ensures within { result ≢ Status.TooLong
-        → HasTakenWithin (S.left input.old) (S.left input.new) longest_input }
+        → HasTakenWithin (S.left input.old) (S.left input.new) LONGEST_INPUT }
     ensures read_fault { result ≡ Status.ReadFault
         → Rose (S.faults input.old) (S.faults input.new) }
     // A generated run leaves the input as it was, whatever it holds.

@@ -7,6 +7,8 @@ use Rattle.clap.specs.Words.{App, Row, Text, fault_of, first_of, matches_of, new
 use Rattle.apcu_model.specs.declared.conf.Clock.{Clock}
 use Rattle.apcu_model.specs.declared.conf.Clock.TheVariants.{Line, Request}
 use Rattle.apcu_model.specs.declared.conf.Conf.{Conf}
+use Rattle.apcu_model.specs.declared.conf.TheConstants.{MOST_SEGMENTS, MOST_SLOTS}
+use Rattle.apcu_model.specs.declared.limits.TheConstants.{LONGEST_INPUT, MOST_WORKERS}
 use Rattle.conf_read.specs.declared.settings.Settings.{Settings}
 use Rattle.conf_read.specs.declared.task.Task.{Task}
 use Rattle.conf_read.specs.declared.options.Row.{Row as CodeRow}
@@ -14,7 +16,7 @@ use Rattle.conf_read.specs.declared.options.Reader.{Reader}
 use Rattle.conf_read.specs.declared.options.Reader.TheVariants.{Size, Number}
 use Rattle.conf_read.specs.Command.{with_options}
 use Rattle.conf_read.specs.Numbers.{number_from, words_in_size}
-use Rattle.conf_read.specs.Tasks.{most_input, task_by}
+use Rattle.conf_read.specs.Tasks.{task_by}
 
 -- ---- the table
 
@@ -30,10 +32,10 @@ abbrev pub shm_size : ProgramOption
 shm_size = record { name = codes "shm-size"; default = Some 4194304; read = words_in_size }
 
 abbrev pub segments : ProgramOption
-segments = record { name = codes "segments"; default = Some 1; read = number_from 1 64 }
+segments = record { name = codes "segments"; default = Some 1; read = number_from 1 MOST_SEGMENTS }
 
 abbrev pub slots : ProgramOption
-slots = record { name = codes "slots"; default = Some 4096; read = number_from 2 1048576 }
+slots = record { name = codes "slots"; default = Some 4096; read = number_from 2 MOST_SLOTS }
 
 -- in seconds; 0: no row grows old
 abbrev pub ttl : ProgramOption
@@ -51,7 +53,7 @@ generate =
 
 -- how many workers they are for
 abbrev pub workers : ProgramOption
-workers = record { name = codes "workers"; default = Some 4; read = number_from 1 64 }
+workers = record { name = codes "workers"; default = Some 4; read = number_from 1 MOST_WORKERS }
 
 -- and how many calls each of these makes
 abbrev pub calls : ProgramOption
@@ -59,11 +61,11 @@ calls = record { name = codes "calls"; default = Some 1000; read = number_from 0
 
 -- how many bytes of a bundle stand in front of the scripts; nothing stands for it
 abbrev pub preload : ProgramOption
-preload = record { name = codes "preload"; default = None; read = number_from 0 most_input }
+preload = record { name = codes "preload"; default = None; read = number_from 0 LONGEST_INPUT }
 
 -- how many bytes of scripts stand in front of an output that is to be judged
 abbrev pub verify : ProgramOption
-verify = record { name = codes "verify"; default = None; read = number_from 0 most_input }
+verify = record { name = codes "verify"; default = None; read = number_from 0 LONGEST_INPUT }
 
 -- whether the map of the cache's words is printed behind a play: 1 where it is
 abbrev pub map_wanted : ProgramOption

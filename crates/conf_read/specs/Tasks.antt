@@ -2,13 +2,10 @@
 use Rattle.std.specs.Prelude.{◌≡◌, ℕ, ◌≤◌, Bool, true, false, not, ◌&&◌, ◌==◌, nat_le}
 use Rattle.std.specs.Prelude.{if◌then◌else◌, Option, Some, None, is_none, IfSome}
 use Rattle.apcu_model.specs.declared.conf.Conf.{Conf}
+use Rattle.apcu_model.specs.declared.limits.TheConstants.{LONGEST_INPUT, MOST_WORKERS}
 use Rattle.conf_read.specs.declared.task.Task.{Task}
 use Rattle.conf_read.specs.declared.task.Task.TheVariants.{Play, Generate, Verify}
 use Rattle.conf_read.specs.declared.task.Choices.{Choices}
-
--- the most bytes of an input, so of what stands in front of one
-abbrev pub most_input : ℕ
-most_input = 67108864
 
 -- one segment of at least 8 MB, of which the slots take 32 KB at most: what generated scripts store
 -- has room in it
@@ -35,8 +32,8 @@ task_by conf (Some seed) crew each judged choices =
 
 -- the cache's shape suits the task, and its numbers are in their bounds
 abbrev pub SuitsTask : Conf → Task → Type 0
-SuitsTask conf (Play bundle map) = IfSome bundle (λ n. n ≤ most_input)
+SuitsTask conf (Play bundle map) = IfSome bundle (λ n. n ≤ LONGEST_INPUT)
 SuitsTask conf (Generate seed crew each) =
     (conf.segments ≡ 1) × (1048576 ≤ conf.words) × (conf.slots ≤ 4096)
-    × (1 ≤ crew) × (crew ≤ 64) × (each ≤ 1000000)
-SuitsTask conf (Verify scripts) = scripts ≤ most_input
+    × (1 ≤ crew) × (crew ≤ MOST_WORKERS) × (each ≤ 1000000)
+SuitsTask conf (Verify scripts) = scripts ≤ LONGEST_INPUT

@@ -5,11 +5,8 @@ ghost use Rattle.clap.specs.Words.{found_of, rows_of};
 ghost use Rattle.conf_read.specs.Options.{option_of, reader_of, given, given_if, IsWithin};
 
 use crate::numbers::{number_in, words_in_size};
-use apcu_model::{MOST_SEGMENTS, MOST_SLOTS};
+use apcu_model::{LONGEST_INPUT, MOST_SEGMENTS, MOST_SLOTS, MOST_WORKERS};
 use clap::ArgMatches;
-
-// The most bytes of input.
-const MOST_INPUT: u64 = 67_108_864;
 
 /// How the value of an option is read.
 #[derive(Clone, Copy)]
@@ -87,7 +84,10 @@ pub(crate) const GENERATE: Row = Row {
 pub(crate) const WORKERS: Row = Row {
     name: "workers",
     default: Some(4),
-    reader: Reader::Number { low: 1, high: 64 },
+    reader: Reader::Number {
+        low: 1,
+        high: MOST_WORKERS as u64,
+    },
 };
 
 /// How many calls each of them makes.
@@ -106,7 +106,7 @@ pub(crate) const PRELOAD: Row = Row {
     default: None,
     reader: Reader::Number {
         low: 0,
-        high: MOST_INPUT,
+        high: LONGEST_INPUT as u64,
     },
 };
 
@@ -116,7 +116,7 @@ pub(crate) const VERIFY: Row = Row {
     default: None,
     reader: Reader::Number {
         low: 0,
-        high: MOST_INPUT,
+        high: LONGEST_INPUT as u64,
     },
 };
 

@@ -2,8 +2,9 @@
 
 ghost use Rattle.std.specs.Prelude.{◌≡◌, ◌≤◌, true, IfSome};
 ghost use Rattle.clap.specs.Words.{found_of, rows_of};
+ghost use Rattle.apcu_model.specs.declared.limits.TheConstants.{LONGEST_INPUT, MOST_WORKERS};
 ghost use Rattle.conf_read.specs.Options.{task_in};
-ghost use Rattle.conf_read.specs.Tasks.{is_large, is_plain, most_input, task_by, SuitsTask};
+ghost use Rattle.conf_read.specs.Tasks.{is_large, is_plain, task_by, SuitsTask};
 
 use crate::options::{CALLS, GENERATE, MAP, PRELOAD, VERIFY, WORKERS, given, given_if};
 use apcu_model::Conf;
@@ -70,10 +71,10 @@ fn task_by(
     choices: Choices,
 ) -> Option<Task>
     requires some { 1 ≤ workers }
-    requires few { workers ≤ 64 }
+    requires few { workers ≤ MOST_WORKERS }
     requires short { calls ≤ 1000000 }
-    requires judged { IfSome judged (λ n. n ≤ most_input) }
-    requires bundle { IfSome choices.bundle (λ n. n ≤ most_input) }
+    requires judged { IfSome judged (λ n. n ≤ LONGEST_INPUT) }
+    requires bundle { IfSome choices.bundle (λ n. n ≤ LONGEST_INPUT) }
     ensures is { result ≡ task_by conf.now seed workers calls judged choices }
     ensures suits { IfSome result (λ task. SuitsTask conf.now task) }
 {

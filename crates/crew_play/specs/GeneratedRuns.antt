@@ -5,6 +5,7 @@ use mathlib.Core.List.{IsPrefix}
 use Rattle.atomic_table.specs.Seated.{TableId}
 use Rattle.apcu_model.specs.declared.conf.Conf.{Conf}
 use Rattle.apcu_model.specs.declared.journal.Mark.{Mark}
+use Rattle.apcu_model.specs.declared.limits.TheConstants.{MOST_WORKERS}
 use Rattle.pin_table.specs.Values.{PassView}
 use Rattle.script_read.specs.declared.script.Step.{Step}
 use Rattle.script_read.specs.Budgets.{events_in, most_events}
@@ -39,7 +40,7 @@ pub record IsRun (conf : Conf) (seed workers calls : ℕ) (scripts : List (List 
     : Type 0 where
   pub large : IsLarge conf
   pub some : 1 ≤ workers
-  pub most : workers ≤ 64
+  pub most : workers ≤ MOST_WORKERS
   pub few : workers * (calls + 1) ≤ most_events
   pub scripts_are : scripts ≡ generated seed workers calls
 

@@ -3,6 +3,7 @@
 ghost use Rattle.std.specs.Prelude.{◌≡◌, ◌≢◌, ℕ, ◌+◌, ◌*◌, ◌<◌, ◌≤◌, [], length, IfOk, IfErr, OnOk};
 ghost use Rattle.std.specs.Prelude.{IsTrue, IsFalse, is_ok, ◌&&◌};
 ghost use Rattle.std.specs.Thread.{IsSync};
+ghost use Rattle.apcu_model.specs.declared.limits.TheConstants.{MOST_WORKERS};
 ghost use Rattle.script_read.specs.Budgets.{events_in, most_events};
 ghost use Rattle.script_read.specs.Clock.{timed, all_timed};
 ghost use Rattle.pin_table.specs.Lists.{first_passes};
@@ -245,7 +246,7 @@ pub fn play_generated<M: Maker + Sync, G: Gate + Sync, R: Threads + Wait + Sync>
 ) -> Result<Watched, CrewFault>
     requires large { IsLarge conf.now }
     requires some { 1 ≤ workers }
-    requires most { workers ≤ 64 }
+    requires most { workers ≤ MOST_WORKERS }
     requires calls { calls ≤ 1000000 }
     ensures watched { IfOk result (λ w. IsWatched conf.now seed workers calls (summary_in w)) }
     ensures few { IfOk result (λ _. workers * (calls + 1) + 9 ≤ most_events) }

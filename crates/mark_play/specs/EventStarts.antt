@@ -4,6 +4,7 @@ use Rattle.std.specs.Prelude.{slice_index_or}
 use Rattle.std.specs.Int.{bit_at}
 use Rattle.seg_words.specs.declared.segment.WordsIn.{Ghosts}
 use Rattle.seg_words.specs.EventWindows.{event_begun}
+use Rattle.apcu_model.specs.declared.limits.TheConstants.{MOST_WORKERS}
 use Rattle.apcu_model.specs.History.{Stage}
 use Rattle.entry_slots.specs.Entries.{listed}
 use Rattle.entry_slots.specs.Standing.{entries}
@@ -27,9 +28,9 @@ pub record Begins {X : Type 0} (g : Ghosts X (List ℕ)) (core : Core) (old new 
   pub laws : PlayLaws
   pub at : IsReached g core old windows m left
   pub held : List ℕ
-  pub seats : length held ≡ 64
+  pub seats : length held ≡ MOST_WORKERS
   pub small : mask < 2 ^ 64
-  pub held_for : (v : ℕ) → v < 64 → bit_at mask v ≡ 1
+  pub held_for : (v : ℕ) → v < MOST_WORKERS → bit_at mask v ≡ 1
       → IsHeldFor (listed (entries core.slots)) (slice_index_or windows v None)
       (slice_index held v)
   pub words : g.words new ≡ g.words old

@@ -5,6 +5,7 @@ use Rattle.seg_words.specs.declared.segment.WordsIn.{Ghosts}
 use Rattle.apcu_model.specs.declared.conf.Conf.{Conf}
 use Rattle.apcu_model.specs.declared.request.Event.{Event}
 use Rattle.apcu_model.specs.declared.journal.TheConstants.{MOST_EVENTS}
+use Rattle.apcu_model.specs.declared.limits.TheConstants.{MOST_WORKERS}
 use Rattle.apcu_model.specs.Cache.{Cache}
 use Rattle.apcu_model.specs.History.{Stage, stage_of, are_shallow, window_of}
 use Rattle.cache_core.specs.declared.cache.Core.{Core}
@@ -40,9 +41,10 @@ pub record IsReached {X : Type 0} (g : Ghosts X (List ℕ)) (core : Core) (words
     (windows : List (Option Window)) (m : Stage) (left : ℕ) : Type 0 where
   pub stand : CacheStands g core words
   pub cache : cache_of core ≡ m.cache
-  pub full : length windows ≡ 64
-  pub seats : length (g.rest words) ≡ 64
-  pub numbers : (v : ℕ) → v < 64 → window_number (slice_index_or windows v None) ≡ window_of m v
+  pub full : length windows ≡ MOST_WORKERS
+  pub seats : length (g.rest words) ≡ MOST_WORKERS
+  pub numbers : (v : ℕ) → v < MOST_WORKERS
+      → window_number (slice_index_or windows v None) ≡ window_of m v
   pub keys : (v : ℕ) (w : Window) → slice_index_or windows v None ≡ Some w
       → IsWindowIn m.cache w
   pub history : IsStage m left

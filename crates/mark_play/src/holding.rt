@@ -4,6 +4,7 @@ ghost use Rattle.std.specs.Prelude.{◌≡◌, ℕ, ◌<◌, ◌≤◌, ◌++◌
 ghost use Rattle.std.specs.Prelude.{slice_index_or, Contains};
 ghost use Rattle.std.specs.Int.{bit_at};
 ghost use Rattle.seg_words.specs.Kept.{Kept};
+ghost use Rattle.apcu_model.specs.declared.limits.TheConstants.{MOST_WORKERS};
 ghost use Rattle.apcu_model.specs.Cache.{Row};
 ghost use Rattle.entry_slots.specs.Entries.{listed};
 ghost use Rattle.entry_slots.specs.Standing.{Stand, entries};
@@ -14,6 +15,7 @@ ghost use Rattle.mark_play.specs.ReplayStages.{IsReached};
 
 use crate::answering::Window;
 use crate::lower::lower_laws;
+use apcu_model::MOST_WORKERS;
 use cache_core::Core;
 use entry_slots::EntrySlots;
 use seg_words::{HeldWords, Segment, WordsIn};
@@ -83,14 +85,14 @@ fn place_for<S: Segment>(slots: &EntrySlots, seg: &mut S, window: &Option<Window
 // Holds for each worker of the mask the block that its window is of, if that is still there.
 fn hold_all(slots: &EntrySlots, words: &mut HeldWords, windows: &[Option<Window>], mask: u64)
     requires stand { Stand ⟦<HeldWords as WordsIn>⟧ slots.now words.old }
-    requires full { length windows.now ≡ 64 }
-    requires seats { length (⟦<HeldWords as WordsIn>⟧.rest words.old) ≡ 64 }
+    requires full { length windows.now ≡ MOST_WORKERS }
+    requires seats { length (⟦<HeldWords as WordsIn>⟧.rest words.old) ≡ MOST_WORKERS }
     requires keys { (v : ℕ) (w : _) → slice_index_or windows.now v None ≡ Some w
         → HasKeyIn (listed (entries slots.now)) w }
-    ensures held { (v : ℕ) → v < 64 → bit_at mask v ≡ 1
+    ensures held { (v : ℕ) → v < MOST_WORKERS → bit_at mask v ≡ 1
         → IsHeldFor (listed (entries slots.now)) (slice_index_or windows.now v None)
         (slice_index (⟦<HeldWords as WordsIn>⟧.rest words.new) v) }
-    ensures seats { length (⟦<HeldWords as WordsIn>⟧.rest words.new) ≡ 64 }
+    ensures seats { length (⟦<HeldWords as WordsIn>⟧.rest words.new) ≡ MOST_WORKERS }
     ensures words { ⟦<HeldWords as WordsIn>⟧.words words.new
         ≡ ⟦<HeldWords as WordsIn>⟧.words words.old }
     ensures aside { ⟦<HeldWords as WordsIn>⟧.aside words.new
@@ -100,7 +102,7 @@ fn hold_all(slots: &EntrySlots, words: &mut HeldWords, windows: &[Option<Window>
     if mask == 0 {
         return;
     }
-    for worker in 0..64u32 {
+    for worker in 0..MOST_WORKERS {
         if mask >> worker & 1 == 1 {
             let at = place_for(slots, words, &windows[worker as usize]);
             words.hold(worker, at);

@@ -4,6 +4,7 @@ ghost use Rattle.std.specs.Prelude.{◌≡◌, ℕ, ◌+◌, ◌<◌, ◌≤◌,
 ghost use Rattle.std.specs.Prelude.{slice_index_or};
 ghost use Rattle.apcu_model.specs.Conf.{IsUsable};
 ghost use Rattle.apcu_model.specs.declared.journal.TheConstants.{MOST_EVENTS};
+ghost use Rattle.apcu_model.specs.declared.limits.TheConstants.{MOST_WORKERS};
 ghost use Rattle.apcu_model.specs.Asking.{asked};
 ghost use Rattle.apcu_model.specs.History.{start_of, is_legal_mask, reply_in, after_event};
 ghost use Rattle.mark_play.specs.Asks.{MayBeAsked};
@@ -14,7 +15,7 @@ use crate::holding::begin_event;
 use crate::legal::is_legal;
 use crate::reached::{Asked, Reached};
 use apcu_iter::Search;
-use apcu_model::{Ask, Conf, Reply};
+use apcu_model::{Ask, Conf, MOST_WORKERS, Reply};
 use cache_core::Core;
 use max_tree::MaxRow;
 use seg_words::{HeldWords, WordsIn};
@@ -24,8 +25,8 @@ use std::marker::Model;
 /// A play of a journal by one thread, one event after the other, on the cache over words. Contracts
 /// see the stage that it has reached, and how many more events it can play.
 ///
-/// It keeps for each of 64 workers which row its last event fetched. An event that meets workers
-/// finds those rows' blocks held, as copies under way hold them.
+/// It keeps for each of `MOST_WORKERS` workers which row its last event fetched. An event that
+/// meets workers finds those rows' blocks held, as copies under way hold them.
 pub struct Replay {
     core: Core,
     words: HeldWords,
@@ -59,11 +60,11 @@ impl Model for Replay {
 
 // No worker has a window.
 fn no_windows(alloc: Global) -> Result<Vec<Option<Window>>, AllocError>
-    ensures full { IfOk result (λ w. length w.items ≡ 64) }
+    ensures full { IfOk result (λ w. length w.items ≡ MOST_WORKERS) }
     ensures none { IfOk result (λ w. (v : ℕ) → slice_index_or w.items v None ≡ None) }
 {
-    let mut windows = Vec::with_capacity(alloc, 64)?;
-    for _worker in 0..64u32 {
+    let mut windows = Vec::with_capacity(alloc, MOST_WORKERS as usize)?;
+    for _worker in 0..MOST_WORKERS {
         windows.push(None)?;
     }
     Ok(windows)
@@ -113,7 +114,7 @@ impl Replay {
         search: &mut Search,
         t: u64,
     ) -> Result<Reply, AllocError>
-        requires worker { worker < 64 }
+        requires worker { worker < MOST_WORKERS }
         requires left { 0 < self.old.left }
         requires may { MayBeAsked self.old.stage.cache.conf search.old (asked ask) }
         ensures reply { IfOk result (λ y. y

@@ -11,6 +11,7 @@ ghost use Rattle.apcu_model.specs.declared.request.Event.{Event};
 ghost use Rattle.apcu_model.specs.declared.journal.Mark.{Mark};
 ghost use Rattle.apcu_model.specs.declared.journal.TheConstants.{MOST_EVENTS};
 ghost use Rattle.apcu_model.specs.declared.request.Reply.{Reply};
+ghost use Rattle.apcu_model.specs.declared.limits.TheConstants.{MOST_WORKERS};
 ghost use Rattle.apcu_model.specs.Cache.{Row};
 ghost use Rattle.apcu_model.specs.Conf.{IsGood};
 ghost use Rattle.apcu_model.specs.Counters.{integer_in};
@@ -80,17 +81,20 @@ pub fn counters_count()
 /// and each counter that was begun, and has of each counter the sum of its steps.
 pub fn summaries_agree()
     ensures no_expunge { (conf : Conf) (seed workers calls : ℕ) (journal : List Mark) (p : Play)
-        → IsLarge conf → 1 ≤ workers → workers ≤ 64 → workers * (calls + 1) ≤ MOST_EVENTS
+        → IsLarge conf → 1 ≤ workers → workers ≤ MOST_WORKERS
+        → workers * (calls + 1) ≤ MOST_EVENTS
         → played conf (observed (generated seed workers calls)) journal ≡ Some p
         → p.stage.cache.expunges ≡ 0 }
     ensures stored { (conf : Conf) (seed workers calls : ℕ) (journal : List Mark) (p : Play)
         (mark : Mark) (wish : Wish)
-        → IsLarge conf → 1 ≤ workers → workers ≤ 64 → workers * (calls + 1) ≤ MOST_EVENTS
+        → IsLarge conf → 1 ≤ workers → workers ≤ MOST_WORKERS
+        → workers * (calls + 1) ≤ MOST_EVENTS
         → let scripts = observed (generated seed workers calls) in
         played conf scripts journal ≡ Some p → wish_of conf scripts p mark.worker ≡ Some wish
         → is_declined wish.request (reply_in p.stage (event_of mark wish)) ≡ false }
     ensures summary { (conf : Conf) (seed workers calls : ℕ) (journal : List Mark) (p : Play)
-        → IsLarge conf → 1 ≤ workers → workers ≤ 64 → workers * (calls + 1) ≤ MOST_EVENTS
+        → IsLarge conf → 1 ≤ workers → workers ≤ MOST_WORKERS
+        → workers * (calls + 1) ≤ MOST_EVENTS
         → let scripts = observed (generated seed workers calls) in
         played conf scripts journal ≡ Some p → IsCompletePlay conf scripts journal
         → IsObservedLast workers calls journal

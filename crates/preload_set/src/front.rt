@@ -1,6 +1,7 @@
 //! The bundle that the first bytes of an input are.
 
 ghost use Rattle.std.specs.Prelude.{◌≡◌, ◌<◌, ◌≤◌, List, take, drop, length, IfOk, MatchResult};
+ghost use Rattle.apcu_model.specs.declared.limits.TheConstants.{LONGEST_INPUT};
 ghost use Rattle.preload_set.specs.Bundle.{Record, AreRecords};
 ghost use Rattle.preload_set.specs.Gives.{ReadsFront};
 
@@ -13,7 +14,7 @@ use std::alloc::Global;
 /// Reads the bundle that the first so many bytes of an input are, and answers the bytes behind them
 /// with it. An input that has fewer bytes is at fault at its end, whatever its bytes are.
 pub fn read_front(alloc: Global, input: &[u8], len: u64) -> Result<(Bundle, &[u8]), ScriptFault>
-    requires { length input.now ≤ 67108864 }
+    requires { length input.now ≤ LONGEST_INPUT }
     // What is read is written in front.
     ensures found { IfOk result (λ x. AreRecords (take len input.now) x.0) }
     // What is written in front is read, unless memory runs out.

@@ -1,6 +1,7 @@
 //! The bundle that bytes spell, or their first fault.
 
 ghost use Rattle.std.specs.Prelude.{◌≡◌, ◌≤◌, ◌<◌, List, length, IfOk, MatchResult};
+ghost use Rattle.apcu_model.specs.declared.limits.TheConstants.{LONGEST_INPUT};
 ghost use Rattle.preload_set.specs.Bundle.{Record, AreRecords};
 ghost use Rattle.preload_set.specs.Gives.{ReadsRecords, ReadsBundle};
 
@@ -14,7 +15,7 @@ use std::alloc::Global;
 
 // All of the bytes, record by record.
 fn records(alloc: Global, bytes: &[u8]) -> Result<Pairs, ReadFault>
-    requires { length bytes.now ≤ 67108864 }
+    requires { length bytes.now ≤ LONGEST_INPUT }
     ensures { ReadsRecords bytes.now result }
 {
     let mut from = Cursor::new(bytes);
@@ -33,7 +34,7 @@ fn records(alloc: Global, bytes: &[u8]) -> Result<Pairs, ReadFault>
 /// the answer is the first fault from the left, with the place of its byte. Memory is taken only
 /// for bytes that are there.
 pub fn read_bundle(alloc: Global, bytes: &[u8]) -> Result<Bundle, ScriptFault>
-    requires { length bytes.now ≤ 67108864 }
+    requires { length bytes.now ≤ LONGEST_INPUT }
     // What is read is written there.
     ensures found { IfOk result (AreRecords bytes.now) }
     // What is written there is read, unless memory runs out, and nothing else is written there.

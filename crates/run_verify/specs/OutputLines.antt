@@ -1,5 +1,6 @@
 -- Where the lines of an output begin and end.
 use Rattle.apcu_model.specs.declared.journal.Mark.{Mark}
+use Rattle.apcu_model.specs.declared.limits.TheConstants.{MOST_WORKERS}
 use Rattle.std.specs.Prelude.{◌<◌, ◌^◌, ℕ, suc, ◌-◌, ◌==◌, ◌||◌, Bool, if◌then◌else◌, List, [], ◌∷◌}
 use Rattle.std.specs.Prelude.{slice_index_or}
 
@@ -12,6 +13,6 @@ abbrev pub first_line : List ℕ → ℕ
 first_line [] = 0
 first_line (byte ∷ bytes) = if byte == 10 then 1 else suc (first_line bytes)
 
--- a worker below 64, and a mask of as many bits
+-- a worker below `MOST_WORKERS`, and a mask of 64 bits
 abbrev pub IsInBits : Mark → Type 0
-IsInBits mark = (mark.worker < 64) × (mark.mask < 2 ^ 64)
+IsInBits mark = (mark.worker < MOST_WORKERS) × (mark.mask < 2 ^ 64)

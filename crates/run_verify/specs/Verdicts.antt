@@ -6,6 +6,7 @@ use Rattle.std.specs.Option.{option_and_then}
 use Rattle.std.specs.Str.{bytes_eq}
 use Rattle.apcu_model.specs.declared.conf.Conf.{Conf}
 use Rattle.apcu_model.specs.declared.journal.Mark.{Mark}
+use Rattle.apcu_model.specs.declared.limits.TheConstants.{MOST_WORKERS}
 use Rattle.script_read.specs.declared.script.Step.{Step}
 use Rattle.script_read.specs.Play.{Play, nothing_played, marked, are_done}
 use Rattle.reply_text.specs.Lines.{texts_of}
@@ -47,13 +48,13 @@ lines_of (byte ∷ bytes) =
 
 -- ---- marks
 
--- a number with a digit more behind it; from 64 on, where no worker is, it is 64
+-- a number with a digit more behind it; from `MOST_WORKERS` on, where no worker is, it is that
 abbrev pub digit_more : ℕ → ℕ → ℕ
-digit_more n byte = min 64 (n * 10 + (byte - 48))
+digit_more n byte = min MOST_WORKERS (n * 10 + (byte - 48))
 
 -- a mask with a worker more, who is above those in it
 abbrev pub worker_more : ℕ → ℕ → ℕ
-worker_more mask w = if nat_lt w 64 && nat_lt mask (2 ^ w) then mask + 2 ^ w else mask
+worker_more mask w = if nat_lt w MOST_WORKERS && nat_lt mask (2 ^ w) then mask + 2 ^ w else mask
 
 -- a number more: the first is the worker's own, the others are those of the mask
 abbrev pub number_more : Option Mark → ℕ → Option Mark
@@ -68,15 +69,15 @@ numbers_from n mark (byte ∷ bytes) =
     if byte == 32 || byte == 10 then numbers_from 0 (number_more mark n) bytes
     else numbers_from (digit_more n byte) mark bytes
 
--- a worker below 64, where the line is spelled as the mark is printed
+-- a worker below `MOST_WORKERS`, where the line is spelled as the mark is printed
 abbrev pub if_spelled : List ℕ → Option Mark → Option Mark
 if_spelled line None = None
 if_spelled line (Some mark) =
-    if nat_lt mark.worker 64 && bytes_eq (mark_line mark) line then Some mark else None
+    if nat_lt mark.worker MOST_WORKERS && bytes_eq (mark_line mark) line then Some mark else None
 
 -- The mark that a line spells: that of its numbers, if the mark is printed as this line. So the
--- numbers are canonical decimals below 64, those of the mask rise, single spaces stand between
--- them, and a line feed at the end.
+-- numbers are canonical decimals below `MOST_WORKERS`, those of the mask rise, single spaces stand
+-- between them, and a line feed at the end.
 abbrev pub mark_of_line : List ℕ → Option Mark
 mark_of_line line = if_spelled line (numbers_from 0 None line)
 

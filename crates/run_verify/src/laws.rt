@@ -3,6 +3,7 @@
 ghost use Rattle.std.specs.Prelude.{◌≡◌, ℕ, ◌<◌, ◌≤◌, ◌^◌, List, length, Some};
 ghost use Rattle.apcu_model.specs.declared.conf.Conf.{Conf};
 ghost use Rattle.apcu_model.specs.declared.journal.Mark.{Mark};
+ghost use Rattle.apcu_model.specs.declared.limits.TheConstants.{MOST_WORKERS};
 ghost use Rattle.script_read.specs.declared.script.Step.{Step};
 ghost use Rattle.script_read.specs.Budgets.{all_events};
 ghost use Rattle.script_read.specs.Play.{Play, played};
@@ -11,8 +12,8 @@ ghost use Rattle.run_verify.specs.Verdicts.{mark_of_line, verdict_of};
 ghost use Rattle.run_verify.specs.OutputLines.{IsInBits};
 ghost use Rattle.run_verify.specs.declared.verifying.Verdict.TheVariants.{Yes};
 
-/// A line spells a mark exactly where it is printed for one of a worker below 64 and a mask of 64
-/// bits, and then it spells that mark.
+/// A line spells a mark exactly where it is printed for one of a worker below `MOST_WORKERS` and a
+/// mask of 64 bits, and then it spells that mark.
 pub fn lines_tell_marks()
     ensures lines { (line : List ℕ) (mark : Mark) → mark_of_line line ≡ Some mark
         → (line ≡ mark_line mark) × IsInBits mark }
@@ -28,11 +29,11 @@ pub fn plays_are_short()
 {}
 
 /// The verdict is yes exactly for the outputs of legal journals that play the scripts to their
-/// ends, with at most 64 workers.
+/// ends, with at most `MOST_WORKERS` workers.
 pub fn yes_is_an_output()
     ensures only { (conf : Conf) (scripts : List (List Step)) (output : List ℕ)
         → verdict_of conf scripts output ≡ Yes → IsOutput conf scripts output }
     ensures each { (conf : Conf) (scripts : List (List Step)) (output : List ℕ)
-        → length scripts ≤ 64 → IsOutput conf scripts output
+        → length scripts ≤ MOST_WORKERS → IsOutput conf scripts output
         → verdict_of conf scripts output ≡ Yes }
 {}

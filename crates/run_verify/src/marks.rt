@@ -2,6 +2,7 @@
 
 ghost use Rattle.std.specs.Prelude.{◌≡◌, ◌+◌, ◌<◌, List, option_map, IfOk, IfErr, IfSome};
 ghost use Rattle.apcu_model.specs.declared.request.Reply.{Reply};
+ghost use Rattle.apcu_model.specs.declared.limits.TheConstants.{MOST_WORKERS};
 ghost use Rattle.script_read.specs.Clock.{timed, all_timed};
 ghost use Rattle.script_read.specs.Patterns.{HasRefusable, SomeRefusable};
 ghost use Rattle.script_read.specs.Play.{marked};
@@ -33,7 +34,7 @@ fn play_wish<M: Maker>(
     mark: Mark,
 ) -> Result<bool, VerifyFault>
     requires seat { IsAnySeat conf.now (timed clock script.now) seat.old }
-    requires worker { mark.worker < 64 }
+    requires worker { mark.worker < MOST_WORKERS }
     requires left { 0 < replay.old.left }
     requires shape { replay.old.stage.cache.conf ≡ conf.now }
     ensures marked { IfOk result (λ wants. (replies : List Reply)
@@ -69,7 +70,7 @@ pub(crate) fn play_mark<M: Maker>(
     played: &GameSoFar,
     mark: Mark,
 ) -> Result<Option<GameSoFar>, VerifyFault>
-    requires worker { mark.worker < 64 }
+    requires worker { mark.worker < MOST_WORKERS }
     requires game { IsGame conf.now (all_timed clock scripts.now) replay.old seats.old
         played.now.game }
     requires left { 0 < replay.old.left }

@@ -6,17 +6,15 @@ ghost use Rattle.std.specs.Prelude.{drop, codes, None, IfSome, IfOk, IfErr, IsTr
 ghost use Rattle.std.specs.Option.{option_map};
 ghost use Rattle.std.specs.Str.{bytes_eq};
 ghost use Rattle.reply_text.specs.Output.{mark_line, mask_text};
+ghost use Rattle.apcu_model.specs.declared.limits.TheConstants.{MOST_WORKERS};
 ghost use Rattle.run_verify.specs.Verdicts.{journal_part, lines_of, mark_of_line, numbers_from};
 ghost use Rattle.run_verify.specs.Verdicts.{digit_more, worker_more, number_more};
 ghost use Rattle.run_verify.specs.OutputLines.{begins_line};
 ghost use Rattle.run_verify.specs.TextPieces.{HasPiece, DiffersAt};
 
 use crate::comparing::{match_both, match_piece};
-use apcu_model::Mark;
+use apcu_model::{MOST_WORKERS, Mark};
 use itoa::Buffer;
-
-// How many workers there are at most.
-const WORKERS: u32 = 64;
 
 // Whether a line begins at this place.
 fn begins_line(output: &[u8], at: usize) -> bool
@@ -72,17 +70,17 @@ pub fn line_end(output: &[u8], at: usize) -> usize
 
 // A number with a digit more behind it.
 fn digit_more(n: u32, byte: u8) -> u32
-    requires { n ≤ 64 }
+    requires { n ≤ MOST_WORKERS }
     ensures { result ≡ digit_more n byte }
 {
-    (n * 10 + u32::from(byte.saturating_sub(48))).min(64)
+    (n * 10 + u32::from(byte.saturating_sub(48))).min(MOST_WORKERS)
 }
 
 // A mask with a worker more, if he is above those in it.
 fn worker_more(mask: u64, worker: u32) -> u64
     ensures { result ≡ worker_more mask worker }
 {
-    if worker < 64 && mask < 1 << worker {
+    if worker < MOST_WORKERS && mask < 1 << worker {
         mask + (1 << worker)
     } else {
         mask
@@ -130,7 +128,7 @@ fn match_mask(line: &[u8], from: usize, mask: u64) -> Result<usize, usize>
         return Ok(from);
     }
     let mut at = from;
-    for worker in 0..WORKERS {
+    for worker in 0..MOST_WORKERS {
         if (mask >> worker) % 2 == 1 {
             let mut digits = Buffer::new();
             match match_both(line, at, b" ", digits.format(worker).as_bytes()) {
@@ -175,7 +173,7 @@ pub fn read_mark(line: &[u8]) -> Option<Mark>
     ensures { result ≡ mark_of_line line.now }
 {
     match numbers_of(line) {
-        Some(mark) if mark.worker < 64 && is_line_of(line, mark) => Some(mark),
+        Some(mark) if mark.worker < MOST_WORKERS && is_line_of(line, mark) => Some(mark),
         _ => None,
     }
 }

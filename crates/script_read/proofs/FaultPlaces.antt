@@ -7,6 +7,7 @@ use Rattle.notation.specs.declared.fault.Reason.TheVariants as reasons
 use Rattle.notation.specs.declared.fault.Fault.{Fault}
 use Rattle.notation.specs.Marks.{◌>>=◌, fail}
 use Rattle.notation.specs.Reading.{reading_of}
+use Rattle.apcu_model.specs.declared.limits.TheConstants.{MOST_WORKERS}
 use Rattle.apcu_model.specs.Levels.{Generator}
 use Rattle.script_read.specs.declared.effect.Effect.{Effect}
 use Rattle.script_read.specs.declared.effect.Effect.TheVariants.{Sets, Begins, Calls}
@@ -15,7 +16,7 @@ use Rattle.script_read.specs.declared.script.Step.{Step}
 use Rattle.script_read.specs.Table.{Form, Done, Need, May, Make, Refuse}
 use Rattle.script_read.specs.Arguments.{key, ttl_in}
 use Rattle.script_read.specs.GenParts.{literal_gen, entry_round}
-use Rattle.script_read.specs.Grammar.{entry_word, inner_levels, most_workers}
+use Rattle.script_read.specs.Grammar.{entry_word, inner_levels}
 use Rattle.script_read.specs.Clock.{at_first, request_moments, step_at}
 use Rattle.script_read.specs.Reading.{space_at, one_more_at, end_at, ends_here, chosen, choice_at, separator_at, limit_at, literal_at, entry_at, begins_entry, generator_at, rest_at, word_len, line_word, behind_word, worker_at, form_after, line_at, is_worker, Rest, with_effect, lines_at, scripts_at}
 
@@ -134,7 +135,7 @@ form_within law (Refuse reason) n last bytes l h = l
 
 worker_within : (n begun : ℕ) (line : List ℕ) → length line ≤ n → Within n same (worker_at begun line)
 worker_within n begun line h =
-    cond_within n same (nat_lt begun most_workers) (end_at (behind_word line)) (fail reasons.Workers line) (end_within n (behind_word line) (omega (arith, h, length-drop (word_len line) line))) h
+    cond_within n same (nat_lt begun MOST_WORKERS) (end_at (behind_word line)) (fail reasons.Workers line) (end_within n (behind_word line) (omega (arith, h, length-drop (word_len line) line))) h
 
 line_within : ValuesInside → (n begun : ℕ) (line : List ℕ) → length line ≤ n → Within n (behind {A = Effect}) (line_at begun line)
 line_within law n begun line h = form_within law (form_after begun (line_word line)) n line (behind_word line) h (omega (arith, h, length-drop (word_len line) line))

@@ -10,13 +10,14 @@ use Rattle.std.proofs.Math.Seq.{take-append_seam, drop-append_seam}
 use Rattle.notation.specs.declared.fault.Reason.TheVariants as reasons
 use Rattle.notation.specs.declared.fault.Fault.{Fault}
 use Rattle.notation.specs.Marks.{◌>>=◌, fail}
+use Rattle.apcu_model.specs.declared.limits.TheConstants.{MOST_WORKERS}
 use Rattle.script_read.specs.declared.effect.Effect.{Effect}
 use Rattle.script_read.specs.declared.effect.Effect.TheVariants.{Sets, Begins, Calls}
 use Rattle.script_read.specs.declared.effect.Moments.{Moments}
 use Rattle.script_read.specs.declared.script.Step.{Step}
 use Rattle.script_read.specs.Clock.{at_first, request_moments, step_at}
 use Rattle.script_read.specs.Table.{Form, Refuse, table, form_in, form_of}
-use Rattle.script_read.specs.Grammar.{Argument, Line, argument_text, arguments_text, AreArguments, ends_line, line_text, script_text, effect_by, effect_of, steps_after, steps_of, Mean, most_workers, AreScripts}
+use Rattle.script_read.specs.Grammar.{Argument, Line, argument_text, arguments_text, AreArguments, ends_line, line_text, script_text, effect_by, effect_of, steps_after, steps_of, Mean, AreScripts}
 use Rattle.script_read.specs.Reading.{ends_word, word_len, line_word, behind_word, end_at, rest_at, worker_at, line_at, is_worker, Rest, with_effect, lines_at, scripts_at}
 use Rattle.script_read.specs.Ties.{AreSomeBytes}
 use Rattle.script_read.proofs.ResultBinds.{ValuesTake, ValuesAgain, bind_ok, ok_is, some_is, then_some, map_some, chosen, bytes_after}
@@ -168,14 +169,14 @@ script_parts body rest = append_assoc (codes "worker") (ends_line ++ flat_map li
 nat_lt_is : (a b : ℕ) → a < b → nat_lt a b ≡ true
 nat_lt_is a b lt = grind (arith, lt)
 
-worker_again : (lines begun : ℕ) (now : Moments) (rest : List ℕ) (steps : List Step) (scripts : List (List Step)) → begun < most_workers → lines_at lines (suc begun) at_first rest ≡ rest_is steps scripts
+worker_again : (lines begun : ℕ) (now : Moments) (rest : List ℕ) (steps : List Step) (scripts : List (List Step)) → begun < MOST_WORKERS → lines_at lines (suc begun) at_first rest ≡ rest_is steps scripts
     → lines_at (suc lines) begun now (codes "worker" ++ (ends_line ++ rest)) ≡ rest_is [] (steps ∷ scripts)
 unfolding lines_at end_at
 worker_again lines begun now rest steps scripts few read =
-    ap (λ (b : Bool). cond b (Ok rest) (fail reasons.Workers (codes "worker" ++ (ends_line ++ rest))) >>= λ after. lines_at lines (suc begun) at_first after >>= λ more. Ok ([], more.0 ∷ more.1)) (nat_lt_is begun most_workers few)
+    ap (λ (b : Bool). cond b (Ok rest) (fail reasons.Workers (codes "worker" ++ (ends_line ++ rest))) >>= λ after. lines_at lines (suc begun) at_first after >>= λ more. Ok ([], more.0 ∷ more.1)) (nat_lt_is begun MOST_WORKERS few)
     ∙ ap (λ (r : Result Rest Fault). r >>= λ more. Ok ([], more.0 ∷ more.1)) read
 
-others_again : FormsAgain → (begun : ℕ) (others : List (List Line)) (scripts : List (List Step)) → AreAllLines others → Mean others scripts → begun + length scripts ≤ most_workers → ReadOn begun (flat_map script_text others) scripts
+others_again : FormsAgain → (begun : ℕ) (others : List (List Line)) (scripts : List (List Step)) → AreAllLines others → Mean others scripts → begun + length scripts ≤ MOST_WORKERS → ReadOn begun (flat_map script_text others) scripts
 unfolding lines_at
 others_again forms begun [] [] are means few lines now enough = refl
 others_again forms begun [] (steps ∷ scripts) are means few lines now enough = absurd means
@@ -210,7 +211,7 @@ pub record IsRest (begun : ℕ) (now : Moments) (bytes : List ℕ) (steps : List
   pub meaning : steps_of now body ≡ Some steps
   pub more_meaning : Mean others scripts
   pub text : bytes ≡ flat_map line_text body ++ flat_map script_text others
-  pub few : length scripts ≤ most_workers - begun
+  pub few : length scripts ≤ MOST_WORKERS - begun
   -- before the first script there is no line
   pub first : begun ≡ 0 → body ≡ []
 
@@ -240,10 +241,10 @@ line_takes forms (suc begun) bytes e rest fits read =
       some = omega arith;
     }
 
-worker_takes : (begun : ℕ) (bytes rest : List ℕ) → is_worker bytes ≡ true → worker_at begun bytes ≡ Ok rest → (begun < most_workers) × (bytes ≡ codes "worker" ++ (ends_line ++ rest))
+worker_takes : (begun : ℕ) (bytes rest : List ℕ) → is_worker bytes ≡ true → worker_at begun bytes ≡ Ok rest → (begun < MOST_WORKERS) × (bytes ≡ codes "worker" ++ (ends_line ++ rest))
 worker_takes begun bytes rest word e =
-    elim (chosen (nat_lt begun most_workers) (end_at (behind_word bytes)) (fail reasons.Workers bytes) (Ok rest) e) [
-      | inl p ↦ (lt_is begun most_workers p.0, sym (take-append-drop (word_len bytes) bytes) ∙ ap₂ (λ (x y : List ℕ). x ++ y) ((bytes_eq-Decides (line_word bytes) (codes "worker")).0 word) (end_takes (behind_word bytes) rest p.1))
+    elim (chosen (nat_lt begun MOST_WORKERS) (end_at (behind_word bytes)) (fail reasons.Workers bytes) (Ok rest) e) [
+      | inl p ↦ (lt_is begun MOST_WORKERS p.0, sym (take-append-drop (word_len bytes) bytes) ∙ ap₂ (λ (x y : List ℕ). x ++ y) ((bytes_eq-Decides (line_word bytes) (codes "worker")).0 word) (end_takes (behind_word bytes) rest p.1))
       | inr p ↦ absurd (let h = p.1 in cc)
     ]
   where
@@ -282,7 +283,7 @@ effect_takes lines begun now bytes rest (Calls call) steps scripts line after re
     subst (λ (r : Rest). IsRest begun now bytes r.0 r.1) is
     (line_rest begun now now bytes rest (Calls call) (step_at now call ∷ a.0.0) a.0.0 a.0.1 line (after now a.0.0 a.0.1 a.1) (λ others is. ap (option_map (λ steps. step_at now call ∷ steps)) is))
 
-worker_rest : (begun : ℕ) (now : Moments) (bytes rest : List ℕ) (steps : List Step) (scripts : List (List Step)) → begun < most_workers → bytes ≡ codes "worker" ++ (ends_line ++ rest) → IsRest (suc begun) at_first rest steps scripts → IsRest begun now bytes [] (steps ∷ scripts)
+worker_rest : (begun : ℕ) (now : Moments) (bytes rest : List ℕ) (steps : List Step) (scripts : List (List Step)) → begun < MOST_WORKERS → bytes ≡ codes "worker" ++ (ends_line ++ rest) → IsRest (suc begun) at_first rest steps scripts → IsRest begun now bytes [] (steps ∷ scripts)
 worker_rest begun now bytes rest steps scripts some text after = record {
   body = [];
   others = after.body ∷ after.others;

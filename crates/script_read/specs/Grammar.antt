@@ -6,6 +6,7 @@ use Rattle.std.specs.List.{flat_map, AllByRecursion}
 use Rattle.php_graph.specs.declared.kind.Kind.{Kind}
 use Rattle.php_graph.specs.Graph.{IsGraph}
 use Rattle.notation.specs.Notation.{text_of}
+use Rattle.apcu_model.specs.declared.limits.TheConstants.{MOST_WORKERS}
 use Rattle.apcu_model.specs.Levels.{Generator}
 use Rattle.script_read.specs.declared.effect.Effect.{Effect}
 use Rattle.script_read.specs.declared.effect.Effect.TheVariants.{Sets, Begins, Calls}
@@ -136,14 +137,10 @@ Mean (lines ∷ others) (steps ∷ scripts) =
     (steps_of at_first lines ≡ Some steps) × Mean others scripts
 Mean _ _ = ⊥
 
--- how many scripts there may be
-abbrev pub most_workers : ℕ
-most_workers = 64
-
 -- The bytes are these scripts, one after the other: they are the text of lines that mean them.
 pub record AreScripts (bytes : List ℕ) (scripts : List (List Step)) : Type 0 where
   pub lines : List (List Line)
   pub text : bytes ≡ flat_map script_text lines
   pub values : AllByRecursion (AllByRecursion (λ line. AreArguments line.arguments)) lines
   pub meaning : Mean lines scripts
-  pub workers : length scripts ≤ most_workers
+  pub workers : length scripts ≤ MOST_WORKERS

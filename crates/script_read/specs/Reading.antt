@@ -9,6 +9,7 @@ use Rattle.notation.specs.declared.fault.Reason.TheVariants as reasons
 use Rattle.notation.specs.declared.fault.Fault.{Fault}
 use Rattle.notation.specs.Marks.{◌>>=◌, fail}
 use Rattle.notation.specs.Reading.{reading_of}
+use Rattle.apcu_model.specs.declared.limits.TheConstants.{MOST_WORKERS}
 use Rattle.apcu_model.specs.Levels.{Generator}
 use Rattle.script_read.specs.declared.effect.Effect.{Effect}
 use Rattle.script_read.specs.declared.effect.Effect.TheVariants.{Sets, Begins, Calls}
@@ -18,7 +19,7 @@ use Rattle.script_read.specs.Arguments.{key, integer, ttl_in}
 use Rattle.script_read.specs.Clock.{at_first, request_moments, step_at}
 use Rattle.script_read.specs.GenParts.{literal_gen, entry_round}
 use Rattle.script_read.specs.Table.{Form, Done, Need, May, Make, Refuse, form_of}
-use Rattle.script_read.specs.Grammar.{entry_word, inner_levels, most_workers}
+use Rattle.script_read.specs.Grammar.{entry_word, inner_levels}
 
 -- ---- words
 
@@ -168,7 +169,7 @@ rest_at (Refuse reason) last bytes = fail reason last
 -- the line `worker`, where so many scripts have begun
 abbrev pub worker_at : ℕ → List ℕ → Result (List ℕ) Fault
 worker_at begun line =
-    if nat_lt begun most_workers then end_at (behind_word line) else fail reasons.Workers line
+    if nat_lt begun MOST_WORKERS then end_at (behind_word line) else fail reasons.Workers line
 
 -- what may follow a word, where so many scripts have begun: nothing before the first `worker`
 abbrev pub form_after : ℕ → List ℕ → Form

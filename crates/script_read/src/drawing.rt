@@ -2,6 +2,7 @@
 
 ghost use Rattle.std.specs.Prelude.{◌≡◌, ◌<◌, ◌≤◌, ◌∷◌, [], IfOk, ◌++◌, OnOk, length, replicate};
 ghost use Rattle.php_graph.specs.declared.kind.Kind.TheVariants as kinds;
+ghost use Rattle.apcu_model.specs.declared.limits.TheConstants.{MOST_WORKERS};
 ghost use Rattle.script_read.specs.GeneratedScripts.{state_after, drawn_number, value_key};
 ghost use Rattle.script_read.specs.GeneratedScripts.{counter_key};
 ghost use Rattle.script_read.specs.GeneratedScripts.{draw_of, draws_from, call_of, steps_of_draws};
@@ -119,7 +120,7 @@ fn script_of(
 /// stores short strings under keys of its own, fetches those of all, and counts on eight counters.
 pub fn generate(alloc: Global, seed: u64, workers: u32, calls: u32) -> Result<Scripts, AllocError>
     requires some { 0 < workers }
-    requires most { workers ≤ 64 }
+    requires most { workers ≤ MOST_WORKERS }
     requires few { calls ≤ 1000000 }
     ensures { IfOk result (λ scripts. scripts ≡ generated seed workers calls) }
 {

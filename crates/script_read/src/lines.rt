@@ -1,9 +1,9 @@
 //! Lines: what follows each word, to the end of its line.
 
 ghost use Rattle.std.specs.Prelude.{◌≡◌, ℕ, ◌≤◌, ◌<◌, List, length, IfOk, OnOk};
+ghost use Rattle.apcu_model.specs.declared.limits.TheConstants.{MOST_WORKERS};
 ghost use Rattle.script_read.specs.Calls.{HasRanges};
 ghost use Rattle.script_read.specs.Table.{call_form, timing, moment_form};
-ghost use Rattle.script_read.specs.Grammar.{most_workers};
 ghost use Rattle.script_read.specs.Reading.{ends_word, word_len, line_word, behind_word, rest_at};
 ghost use Rattle.script_read.specs.Reading.{worker_at, line_at};
 ghost use Rattle.script_read.specs.Gives.{GivesItem, form_named, IsInRange};
@@ -22,6 +22,7 @@ use crate::pools::{
     pool_set_multiple,
 };
 use crate::stores::store;
+use apcu_model::MOST_WORKERS;
 use notation::Reason;
 use std::alloc::Global;
 
@@ -152,7 +153,7 @@ fn ends_word(byte: u8) -> bool
 pub(crate) fn worker<'a>(begun: u32, line: &'a [u8], behind: &'a [u8]) -> Result<&'a [u8], Stop>
     requires { behind.now ≡ behind_word line.now }
     ensures read { GivesItem (λ rest. rest.now) result (worker_at begun line.now) }
-    ensures few { OnOk result (begun < most_workers) }
+    ensures few { OnOk result (begun < MOST_WORKERS) }
     ensures fewer { IfOk result (λ rest. length rest.now < length behind.now) }
 {
     if begun < MOST_WORKERS {
@@ -161,9 +162,6 @@ pub(crate) fn worker<'a>(begun: u32, line: &'a [u8], behind: &'a [u8]) -> Result
         Err(fault(Reason::Workers, line))
     }
 }
-
-// How many scripts there may be.
-const MOST_WORKERS: u32 = 64;
 
 // Any other line, where so many scripts have begun.
 pub(crate) fn line<'a>(

@@ -1,6 +1,7 @@
 //! The scripts that bytes spell, or their first fault.
 
 ghost use Rattle.std.specs.Prelude.{◌≡◌, ℕ, ◌≤◌, List, length, IfOk, MatchResult};
+ghost use Rattle.apcu_model.specs.declared.limits.TheConstants.{LONGEST_INPUT};
 ghost use Rattle.script_read.specs.declared.script.Step.{Step};
 ghost use Rattle.script_read.specs.Grammar.{AreScripts};
 ghost use Rattle.script_read.specs.Reading.{scripts_at};
@@ -17,7 +18,7 @@ use std::alloc::Global;
 
 // All of the bytes, line by line.
 fn scripts(alloc: Global, bytes: &[u8]) -> Result<Scripts, Stop>
-    requires { length bytes.now ≤ 67108864 }
+    requires { length bytes.now ≤ LONGEST_INPUT }
     ensures read { GivesItem (λ scripts. scripts) result (scripts_at bytes.now) }
 {
     let mut scripts = Scripts::new(alloc);
@@ -44,7 +45,7 @@ fn scripts(alloc: Global, bytes: &[u8]) -> Result<Scripts, Stop>
 
 // The scripts, or the first fault.
 fn read(alloc: Global, bytes: &[u8]) -> Result<Scripts, ScriptFault>
-    requires { length bytes.now ≤ 67108864 }
+    requires { length bytes.now ≤ LONGEST_INPUT }
     ensures { ReadsScripts bytes.now result }
 {
     readings_stay_inside();
@@ -59,10 +60,10 @@ fn read(alloc: Global, bytes: &[u8]) -> Result<Scripts, ScriptFault>
 }
 
 /// Reads the scripts that all of the bytes spell, one for each worker: none where there are no
-/// bytes, and 64 at most. Else the answer is the first fault from the left, with the place of its
-/// byte.
+/// bytes, and `MOST_WORKERS` at most. Else the answer is the first fault from the left, with the
+/// place of its byte.
 pub fn read_scripts(alloc: Global, bytes: &[u8]) -> Result<Scripts, ScriptFault>
-    requires { length bytes.now ≤ 67108864 }
+    requires { length bytes.now ≤ LONGEST_INPUT }
     // What is read is spelled so.
     ensures found { IfOk result (AreScripts bytes.now) }
     // What is spelled so is read, unless memory runs out, and nothing else is spelled so.

@@ -2,6 +2,7 @@
 
 ghost use Rattle.std.specs.Prelude.{◌≡◌, ℕ, ◌<◌, ◌==◌, ◌++◌, List, [], ◌∷◌, length, is_ok};
 ghost use Rattle.std.specs.Prelude.{if◌then◌else◌, slice_get, Some, IfNone};
+ghost use Rattle.apcu_model.specs.declared.limits.TheConstants.{MOST_WORKERS};
 ghost use Rattle.script_read.specs.declared.script.Step.{Step};
 ghost use Rattle.script_read.specs.Calls.{IsInTime, IsRanged};
 ghost use Rattle.script_read.specs.Clock.{moment_under};
@@ -119,13 +120,14 @@ impl Drop for Scripts {
 
 impl Model for Scripts {
     ghost use Rattle.std.specs.Prelude.{List, length, ◌≤◌};
+    ghost use Rattle.apcu_model.specs.declared.limits.TheConstants.{MOST_WORKERS};
     ghost use Rattle.script_read.specs.declared.script.Step.{Step};
 
     ghost Value = { List (List Step) };
 
     ghost view = { λ s. s.scripts.items };
 
-    ghost invariant = { λ s. length s.scripts.items ≤ 64 };
+    ghost invariant = { λ s. length s.scripts.items ≤ MOST_WORKERS };
 }
 
 impl Scripts {
@@ -170,7 +172,7 @@ impl Scripts {
 
     /// The script of one more worker; without memory the scripts stay as they were.
     pub fn push(&mut self, script: Script) -> Result<(), AllocError>
-        requires { length self.old < 64 }
+        requires { length self.old < MOST_WORKERS }
         ensures { self.new ≡ (if is_ok result then self.old ++ script ∷ [] else self.old) }
     {
         self.scripts.push(script)?;
@@ -179,7 +181,7 @@ impl Scripts {
 
     // The script of one more worker begins; without memory the scripts stay as they were.
     pub(crate) fn begin(&mut self, alloc: Global) -> Result<(), AllocError>
-        requires { length self.old < 64 }
+        requires { length self.old < MOST_WORKERS }
         ensures { self.new ≡ (if is_ok result then self.old ++ [] ∷ [] else self.old) }
     {
         self.scripts.push(Script::new(alloc))?;

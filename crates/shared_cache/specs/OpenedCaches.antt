@@ -3,6 +3,7 @@ use Rattle.std.specs.Prelude.{◌≡◌, ℕ, ◌<◌, ◌≤◌, List, [], leng
 use Rattle.atomic_table.specs.Seated.{TableId}
 use Rattle.apcu_model.specs.declared.conf.Conf.{Conf}
 use Rattle.apcu_model.specs.declared.journal.TheConstants.{MOST_EVENTS}
+use Rattle.apcu_model.specs.declared.limits.TheConstants.{MOST_WORKERS}
 use Rattle.apcu_model.specs.Conf.{IsGood}
 use Rattle.apcu_model.specs.Journal.{Marks}
 use Rattle.cache_core.specs.declared.cache.Core.{Core}
@@ -24,7 +25,7 @@ pub record AreBudgets (budgets : List ℕ) : Type 0 where
 -- a cache of this shape can be opened for workers with these budgets
 pub record MayOpen (conf : Conf) (budgets : List ℕ) : Type 0 where
   pub good : IsGood conf
-  pub few : length budgets ≤ 64
+  pub few : length budgets ≤ MOST_WORKERS
   pub budgets_are : AreBudgets budgets
 
 -- It is as the lock keeps it, without an event; no worker has begun or ended.

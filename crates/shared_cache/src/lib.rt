@@ -1,8 +1,8 @@
 //! A cache that many workers share: one lock, one history, one journal.
 //!
-//! It lives in one process and is for a bounded run: of at most 64 workers on threads, in at most
-//! 128 MB, and with at most 4,194,304 events (`apcu_model::MOST_EVENTS`) of all workers together,
-//! their ends included. How many each may make is fixed when it is opened.
+//! It lives in one process and is for a bounded run: of at most `apcu_model::MOST_WORKERS` workers
+//! on threads, in at most 128 MB, and with at most `apcu_model::MOST_EVENTS` events of all workers
+//! together, their ends included. How many each may make is fixed when it is opened.
 //!
 //! `open_cache` takes all the memory, and `Fresh::name` gives the cache under its table's name, a
 //! pass for each worker, and room for those that end. Each call of a worker is one event: it takes

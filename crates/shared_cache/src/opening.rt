@@ -8,7 +8,7 @@ ghost use Rattle.shared_cache.specs.declared.opening.OpenFault.TheVariants.{BadC
 use crate::locked_cache::LockedCache;
 use crate::lower::lower_laws;
 use crate::shared::Shared;
-use apcu_model::{Conf, Journal, MOST_EVENTS};
+use apcu_model::{Conf, Journal, MOST_EVENTS, MOST_WORKERS};
 use cache_core::Core;
 use max_tree::MaxRow;
 use pin_table::{EndedList, Passes, PinTable, TableName, WriterSeat};
@@ -17,14 +17,11 @@ use std::alloc::{AllocError, Global};
 use std::marker::Model;
 use std::sync::Wait;
 
-// The most workers.
-const MOST_WORKERS: usize = 64;
-
 /// Why a cache was not opened.
 #[derive(Clone, Copy, Debug, PartialEq, Eq)]
 pub enum OpenFault {
-    /// The shape is none that a cache can have; or there are more than 64 budgets, one is 0, or
-    /// their sum is above `MOST_EVENTS`, which is 4,194,304.
+    /// The shape is none that a cache can have; or there are more than `MOST_WORKERS` budgets, one
+    /// is 0, or their sum is above `MOST_EVENTS`.
     BadConf,
     /// There was not enough memory.
     Memory,
@@ -103,8 +100,8 @@ impl Model for Fresh {
 }
 
 /// Opens an empty cache of this shape for as many workers as there are budgets: how many events
-/// each may make, its end included. There are at most 64, and all together at most `MOST_EVENTS`
-/// of `apcu_model`.
+/// each may make, its end included. There are at most `MOST_WORKERS`, and all together at most
+/// `MOST_EVENTS` of `apcu_model`.
 ///
 /// All memory that the cache ever needs is taken here, but for what is copied out of it. `rt` is
 /// the leave to wait, as `main`'s `HostRuntime` is; nobody is waited for here.
@@ -121,7 +118,7 @@ pub fn open_cache<R: Wait>(
     ensures memory { IfErr result (λ e. e ≡ Memory → MayOpen conf.now budgets.now) }
 {
     let _ = rt;
-    if !conf.good() || budgets.len() > MOST_WORKERS {
+    if !conf.good() || budgets.len() > MOST_WORKERS as usize {
         return Err(OpenFault::BadConf);
     }
     let Some(events) = total(budgets) else {

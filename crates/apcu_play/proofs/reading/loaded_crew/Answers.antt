@@ -18,8 +18,8 @@ returns-in-Err-read_scripts-clause-cause c = λ conf map.
     script_cause refuses_none conf (Play (Some c.args.len) map) c.args.bytes.now c.args.len c.in-Err-read_scripts.fault c.ending_by-in-Err-read_scripts.result c.ending_by-in-Err-read_scripts.ensures
     (behind_fault c.args.len map c.args.bytes.now c.in-Ok.front.1.now c.in-Ok.front.0 c.in-Err-read_scripts.fault front.0 c.in-Ok.ensures.found front.2 c.in-Err-read_scripts.ensures.read c.in-Err-read_scripts.ensures.only)
 
-pub returns-then-len-ge64-clause-cause : goal.returns-then-len-ge64-clause-cause
-returns-then-len-ge64-clause-cause c = λ conf map.
+pub returns-then-len-ge-MOST_WORKERS-clause-cause : goal.returns-then-len-ge-MOST_WORKERS-clause-cause
+returns-then-len-ge-MOST_WORKERS-clause-cause c = λ conf map.
     let front = c.in-Ok.ensures.read in
     let scripts = c.in-Ok-read_scripts.scripts in
     let records = c.in-Ok.front.0 in
@@ -32,7 +32,7 @@ returns-then-len-ge64-clause-cause c = λ conf map.
       spelled = subst (λ bytes. AreScripts bytes scripts) front.2 c.in-Ok-read_scripts.ensures.found;
       crew_is = refl;
     })
-    (inr (too_long scripts records (omega (arith, c.len.ensures, c.if-len-ge64.true)))) (λ before after many. many)
+    (inr (too_long scripts records (omega (arith, c.len.ensures, c.if-len-ge-MOST_WORKERS.true)))) (λ before after many. many)
 
 pub returns-in_default-clause-cause : goal.returns-in_default-clause-cause
 returns-in_default-clause-cause c = λ conf map. memory_cause refuses_none conf (Play (Some c.args.len) map) c.args.bytes.now c.of-in_default.result c.of-in_default.ensures

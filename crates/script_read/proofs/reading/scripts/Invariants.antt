@@ -1,6 +1,6 @@
 use Rattle.std.proofs.Common.{◌≤◌, ◌+◌, length}
 use Rattle.script_read.specs.Calls.{last_moment}
-use Rattle.script_read.specs.Grammar.{most_workers}
+use Rattle.apcu_model.specs.declared.limits.TheConstants.{MOST_WORKERS}
 use Rattle.script_read.specs.GrowingScripts.{last_len}
 use Rattle.script_read.specs.Reading.{scripts_at}
 use Rattle.script_read.proofs.LineLoop.{IsSoFar}
@@ -11,7 +11,7 @@ invariant-loop-rest l = record {
   so_far : IsSoFar l.scripts l.moments l.rest (scripts_at l.bytes);
   soon : (l.moments.t ≤ last_moment) × (l.moments.start ≤ last_moment);
   few : last_len l.scripts + length l.rest ≤ length l.bytes;
-  workers : length l.scripts ≤ most_workers;
+  workers : length l.scripts ≤ MOST_WORKERS;
 }
 
 abbrev pub decreases-loop-rest : goal.decreases-loop-rest
