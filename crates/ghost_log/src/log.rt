@@ -17,6 +17,7 @@ pub trait Happens<S> {
 
 /// The state that the events so far have led to, as contracts see an `S`. It exists only in proofs:
 /// it takes no bytes, and no `S` is made for it.
+#[derive(Drop)]
 pub struct Log<S> {
     marker: PhantomData<S>,
     /// It goes on by `then` alone.
@@ -28,12 +29,6 @@ impl<S> Model for Log<S> {
 }
 
 unsafe impl<S> Send for Log<S> {}
-
-impl<S> Drop for Log<S> {
-    fn drop(self) {
-        let Log { marker: _ } = self;
-    }
-}
 
 // A log, and an event that happens then.
 #[derive(Drop)]
