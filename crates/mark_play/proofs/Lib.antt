@@ -1,4 +1,3 @@
-mod FieldlessStruct
 mod FoundRows
 mod RowPlaces
 mod HeldWorkers

@@ -1,22 +1,28 @@
 //! The ghost of a replay: the stage that its events have led to.
 
-ghost use Rattle.std.specs.Prelude.{◌≡◌};
-ghost use Rattle.std.specs.Borrow.{ftrue};
-ghost use Rattle.apcu_model.specs.History.{Stage, start_of, after_event};
-ghost use Rattle.mark_play.specs.Events.{event_in};
+ghost use Rattle.apcu_model.specs.History.{Stage, start_of};
 
 use apcu_model::{Ask, Conf};
+use ghost_log::{Begins, Happens, Log};
 use std::marker::Model;
 
 /// Where the events so far have led. It exists only in proofs.
-#[derive(Drop)]
-pub struct Reached {
-    /// It goes on by `then` alone.
-    pub ghost stage: { Stage },
+pub type Reached = Log<Stages>;
+
+/// What contracts see as a stage. No value of this type is made.
+pub struct Stages {
+    conf: Conf,
 }
 
-impl Model for Reached {
-    ghost also_owns = { λ _. ftrue };
+impl Model for Stages {
+    ghost Value = { Stage };
+
+    ghost view = { λ s. start_of s.conf };
+}
+
+// The beginning, with an empty cache of this shape.
+impl Begins<Stages> for Conf {
+    ghost begun = { start_of };
 }
 
 /// An event, with its request lent.
@@ -31,18 +37,9 @@ pub enum Asked<'a> {
     },
 }
 
-impl Reached {
-    /// The beginning, with an empty cache of this shape.
-    pub fn start(_conf: &Conf) -> Reached
-        ensures { result.stage ≡ start_of _conf.now }
-    {
-        Reached {}
-    }
+impl Happens<Stages> for Asked<'_> {
+    ghost use Rattle.apcu_model.specs.History.{after_event};
+    ghost use Rattle.mark_play.specs.Events.{event_in};
 
-    /// What the event leads to.
-    pub fn then(&self, _event: &Asked<'_>) -> Reached
-        ensures { result.stage ≡ after_event self.now.stage (event_in _event.now) }
-    {
-        Reached {}
-    }
+    ghost after = { λ event stage. after_event stage (event_in event) };
 }

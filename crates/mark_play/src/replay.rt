@@ -52,10 +52,10 @@ impl Model for Replay {
 
     ghost Value = { Replayed };
 
-    ghost view = { λ s. record { stage = s.reached.stage; left = s.left } };
+    ghost view = { λ s. record { stage = s.reached.state; left = s.left } };
 
     ghost invariant = { λ s. IsReached ⟦<HeldWords as WordsIn>⟧ s.core s.words s.windows.items
-        s.reached.stage s.left };
+        s.reached.state s.left };
 }
 
 // No worker has a window.

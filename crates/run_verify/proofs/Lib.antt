@@ -9,7 +9,6 @@ pub mod MarkLines
 pub mod OutputJournals
 pub mod Games
 pub mod YesVerdicts
-pub mod FieldlessStruct
 pub mod JudgedLines
 pub mod ExampleVerdicts
 pub mod ReadablePatterns

@@ -1,37 +1,42 @@
 //! The ghost of a verdict: where the marks so far have led.
 
-ghost use Rattle.std.specs.Prelude.{◌≡◌};
-ghost use Rattle.std.specs.Borrow.{ftrue};
-ghost use Rattle.script_read.specs.Clock.{all_timed};
 ghost use Rattle.run_verify.specs.Games.{Game, game_begun, game_after};
+ghost use Rattle.std.specs.Prelude.{[]};
 
 use apcu_model::{Clock, Conf, Mark};
+use ghost_log::{Begins, Happens, Log};
 use script_read::Scripts;
 use std::marker::Model;
 
 /// Where the marks so far have led. It exists only in proofs.
+pub(crate) type GameSoFar = Log<Games>;
+
+/// What contracts see as a game. No value of this type is made.
+pub(crate) struct Games {
+    conf: Conf,
+}
+
+impl Model for Games {
+    ghost Value = { Game };
+
+    ghost view = { λ s. game_begun s.conf [] };
+}
+
+/// No mark was played of these scripts, as the clock sees them, on a cache of this shape.
 #[derive(Drop)]
-pub(crate) struct GameSoFar {
-    /// It goes on by `then` alone.
-    pub ghost game: { Game },
+pub(crate) struct Unplayed<'a> {
+    pub(crate) conf: &'a Conf,
+    pub(crate) clock: &'a Clock,
+    pub(crate) scripts: &'a Scripts,
 }
 
-impl Model for GameSoFar {
-    ghost also_owns = { λ _. ftrue };
+impl Begins<Games> for Unplayed<'_> {
+    ghost use Rattle.script_read.specs.Clock.{all_timed};
+
+    ghost begun = { λ u. game_begun u.conf.now (all_timed u.clock.now u.scripts.now) };
 }
 
-impl GameSoFar {
-    /// No mark was played of these scripts, as the clock sees them, on a cache of this shape.
-    pub(crate) fn start(_conf: &Conf, _clock: &Clock, _scripts: &Scripts) -> GameSoFar
-        ensures { result.game ≡ game_begun _conf.now (all_timed _clock.now _scripts.now) }
-    {
-        GameSoFar {}
-    }
-
-    /// After one mark more, if it can be played.
-    pub(crate) fn then(&self, _mark: &Mark) -> GameSoFar
-        ensures { result.game ≡ game_after self.now.game _mark.now }
-    {
-        GameSoFar {}
-    }
+// After one mark more, if it can be played.
+impl Happens<Games> for Mark {
+    ghost after = { λ mark game. game_after game mark };
 }

@@ -72,12 +72,12 @@ pub(crate) fn play_mark<M: Maker>(
 ) -> Result<Option<GameSoFar>, VerifyFault>
     requires worker { mark.worker < MOST_WORKERS }
     requires game { IsGame conf.now (all_timed clock scripts.now) replay.old seats.old
-        played.now.game }
+        played.now.state }
     requires left { 0 < replay.old.left }
-    ensures marked { IfOk result (λ q. option_map (λ (p : GameSoFar). p.game.play) q
-        ≡ marked conf.now (all_timed clock scripts.now) played.now.game.play mark) }
+    ensures marked { IfOk result (λ q. option_map (λ (p : GameSoFar). p.state.play) q
+        ≡ marked conf.now (all_timed clock scripts.now) played.now.state.play mark) }
     ensures game { IfOk result (λ q. IfSome q (λ p.
-        IsGame conf.now (all_timed clock scripts.now) replay.new seats.new p.game)) }
+        IsGame conf.now (all_timed clock scripts.now) replay.new seats.new p.state)) }
     ensures left { IfOk result (λ q. IfSome q (λ p. replay.new.left + 1 ≡ replay.old.left)) }
     ensures pattern { IfErr result (λ fault. fault ≡ Pattern
         → SomeRefusable (M.may_refuse maker.now) scripts.now) }

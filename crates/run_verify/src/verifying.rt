@@ -14,7 +14,7 @@ ghost use Rattle.run_verify.specs.declared.fault.VerifyFault.TheVariants.{Patter
 
 use crate::comparing::difference;
 use crate::fault::VerifyFault;
-use crate::game_so_far::GameSoFar;
+use crate::game_so_far::{GameSoFar, Unplayed};
 use crate::marks::play_mark;
 use crate::patterns::try_patterns;
 use crate::reading::{journal_at, line_end, read_mark};
@@ -78,7 +78,11 @@ fn judge<M: Maker>(
     };
     let mut replay = Replay::new(alloc, conf, events)?;
     let mut seats = seats_for(alloc, scripts)?;
-    let mut played = GameSoFar::start(conf, &clock, scripts);
+    let mut played = GameSoFar::start(&Unplayed {
+        conf,
+        clock: &clock,
+        scripts,
+    });
     let mut at = part;
     let mut k = 0u32;
     'lines: while at < output.len() {

@@ -13,7 +13,7 @@ use Rattle.run_verify.proofs.marks.play_mark.Goals.{then-mark-count-via-then-mar
 
 pub returns-then-mark-count-clause-marked : goal.returns-then-mark-count-clause-marked
 returns-then-mark-count-clause-marked g c =
-    let p = c.args.played.now.game.play in
+    let p = c.args.played.now.state.play in
     let scripts = all_timed c.args.clock c.args.scripts.now in
     let many = length-map c.args.scripts.now (timed c.args.clock) in
     elim c.then-mark-count.branch [
@@ -28,14 +28,14 @@ play_wish-requires-clause-seat g c =
     let many = length-map c.args.scripts.now (timed c.args.clock) in
     let low : c.args.mark.worker < length c.args.seats.now = omega (arith, c.if-mark-count.false, c.len-count.ensures, c.requires.game.many, many) in
     record {
-      replies = replies_of c.args.played.now.game.play c.args.mark.worker;
+      replies = replies_of c.args.played.now.state.play c.args.mark.worker;
       at = c.requires.game.seated c.args.mark.worker (timed c.args.clock c.at-script.result.now) _ (script_at c.args.clock c.args.scripts.now c.args.mark.worker _ c.at-script.ensures)
           (slice_get-get_or c.args.seats.now c.args.mark.worker c.index-seats-mark.result low);
     }
 
 pub returns-then-not-wants-clause-marked : goal.returns-then-not-wants-clause-marked
 returns-then-not-wants-clause-marked g c =
-    let p = c.args.played.now.game.play in
+    let p = c.args.played.now.state.play in
     let scripts = all_timed c.args.clock c.args.scripts.now in
     let script = timed c.args.clock c.at-script.result.now in
     let rs = replies_of p c.args.mark.worker in
@@ -49,7 +49,7 @@ returns-then-not-wants-clause-marked g c =
 
 pub returns-clause-marked : goal.returns-clause-marked
 returns-clause-marked g c =
-    let p = c.args.played.now.game.play in
+    let p = c.args.played.now.state.play in
     let scripts = all_timed c.args.clock c.args.scripts.now in
     let script = timed c.args.clock c.at-script.result.now in
     let rs = replies_of p c.args.mark.worker in
@@ -60,11 +60,11 @@ returns-clause-marked g c =
     let legal = legal_same (length scripts) c.len-count.result c.args.mark p.stage c.args.replay.now.stage c.is_legal.result true (c.len-count.ensures ∙ sym many) c.requires.game.stage c.is_legal.ensures c.if-not-is_legal.false in
     let m = subst (λ b. IsMadeIfWanted c.args.conf.now script rs c.args.replay.now c.play_wish.new.replay c.play_wish.new.seat c.args.mark b) c.if-not-wants.false (c.in_ok-wants.ensures.marked rs s) in
     ap (λ (x : Game). Some x.play) c.then.ensures
-    ∙ marked_after c.args.conf.now scripts c.args.replay.now c.play_wish.new.replay c.args.seats.now c.play_wish.new.seat c.args.played.now.game c.args.mark script c.requires.game here legal m
+    ∙ marked_after c.args.conf.now scripts c.args.replay.now c.play_wish.new.replay c.args.seats.now c.play_wish.new.seat c.args.played.now.state c.args.mark script c.requires.game here legal m
 
 pub returns-clause-game : goal.returns-clause-game
 returns-clause-game g c =
-    let p = c.args.played.now.game.play in
+    let p = c.args.played.now.state.play in
     let scripts = all_timed c.args.clock c.args.scripts.now in
     let script = timed c.args.clock c.at-script.result.now in
     let rs = replies_of p c.args.mark.worker in
@@ -75,12 +75,12 @@ returns-clause-game g c =
     let legal = legal_same (length scripts) c.len-count.result c.args.mark p.stage c.args.replay.now.stage c.is_legal.result true (c.len-count.ensures ∙ sym many) c.requires.game.stage c.is_legal.ensures c.if-not-is_legal.false in
     let m = subst (λ b. IsMadeIfWanted c.args.conf.now script rs c.args.replay.now c.play_wish.new.replay c.play_wish.new.seat c.args.mark b) c.if-not-wants.false (c.in_ok-wants.ensures.marked rs s) in
     subst (λ (x : Game). IsGame c.args.conf.now scripts c.play_wish.new.replay (slice_set c.args.seats.now c.args.mark.worker c.play_wish.new.seat) x) (sym c.then.ensures)
-    (game_on c.args.conf.now scripts c.args.replay.now c.play_wish.new.replay c.args.seats.now c.play_wish.new.seat c.args.played.now.game c.args.mark script c.requires.game here legal m)
+    (game_on c.args.conf.now scripts c.args.replay.now c.play_wish.new.replay c.args.seats.now c.play_wish.new.seat c.args.played.now.state c.args.mark script c.requires.game here legal m)
 
 pub returns-clause-left : goal.returns-clause-left
 returns-clause-left g c =
     let script = timed c.args.clock c.at-script.result.now in
-    let rs = replies_of c.args.played.now.game.play c.args.mark.worker in
+    let rs = replies_of c.args.played.now.state.play c.args.mark.worker in
     let many = length-map c.args.scripts.now (timed c.args.clock) in
     let low : c.args.mark.worker < length c.args.seats.now = omega (arith, c.if-mark-count.false, c.len-count.ensures, c.requires.game.many, many) in
     let here = script_at c.args.clock c.args.scripts.now c.args.mark.worker _ c.at-script.ensures in

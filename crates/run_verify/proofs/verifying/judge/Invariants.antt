@@ -6,8 +6,8 @@ use Rattle.run_verify.proofs.verifying.judge.Given as goal
 
 abbrev pub invariant-lines : goal.invariant-lines
 invariant-lines g l = record {
-  judged : IsJudgedTo l.conf (all_timed l.clock l.scripts) l.output l.part l.at l.k l.played.game.play;
-  game : IsGame l.conf (all_timed l.clock l.scripts) l.replay l.seats.items l.played.game;
+  judged : IsJudgedTo l.conf (all_timed l.clock l.scripts) l.output l.part l.at l.k l.played.state.play;
+  game : IsGame l.conf (all_timed l.clock l.scripts) l.replay l.seats.items l.played.state;
   left : l.replay.left + l.k ≡ l.events;
 }
 

@@ -6,7 +6,7 @@ use Rattle.mark_play.proofs.replay.Replay.new.Goals as goal
 
 pub invariant_of-result : goal.invariant_of-result
 invariant_of-result c =
-    let start : c.start-reached.result.stage ≡ start_of c.args.conf.now = c.start-reached.ensures in
+    let start : c.start-reached.result.state ≡ start_of c.args.conf.now = c.start-reached.ensures in
     record {
       stand = c.format-core.ensures.stand;
       cache = c.format-core.ensures.made ∙ ap (λ (m : Stage). m.cache) (sym start);
