@@ -11,7 +11,7 @@ import glob, os, re, shutil, sys
 
 CRATE, FUNCTION, MAIN = "apcu_play", "run", "replayed"
 # The definitions by which that clause comes to what it says of a part of the program alone.
-PARTS = {"AnswersSeed": "generated runs", "AnswersOutput": "verdicts", "map_after": "maps"}
+PARTS = {"AnswersSeed": "generated runs", "AnswersOutput": "verdicts", "map_text_after": "maps"}
 # What is read in an hour: a file, and of the two that serve all tasks the definitions alone that are named.
 SPINE = [
     ("apcu_play/Run", "a text was written whole", ["WritesAll", "Replays"]),

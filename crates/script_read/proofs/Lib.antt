@@ -23,3 +23,4 @@ mod FormRanges
 pub mod SpelledRanges
 pub mod RefusablePatterns
 mod DrawnScripts
+mod ComingSteps

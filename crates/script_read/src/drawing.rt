@@ -16,7 +16,7 @@ use seg_words::words_in;
 use std::alloc::{AllocError, Global};
 
 // The state behind one more number.
-fn state_after(state: u64) -> u64
+pub(crate) fn state_after(state: u64) -> u64
     ensures { result ≡ state_after state }
 {
     state
@@ -59,7 +59,7 @@ fn string_of(alloc: Global, len: usize) -> Result<Graph, AllocError>
 }
 
 // The call that a number means.
-fn call_of(
+pub(crate) fn call_of(
     alloc: Global,
     text: &mut Vec<u8>,
     worker: u64,

@@ -23,6 +23,7 @@ mod pools;
 mod reading;
 mod script;
 mod searches;
+mod steps;
 mod stores;
 
 pub use budgets::{budget, event_count};
@@ -34,3 +35,4 @@ pub use laws::{calls_ask_few, readings_are_scripts, scripts_are_ranged, scripts_
 pub use pool_box::PoolBox;
 pub use reading::read_scripts;
 pub use script::{Script, Scripts, Step};
+pub use steps::{AsStep, DrawnSteps, ScriptSteps, Steps};
