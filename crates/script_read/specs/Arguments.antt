@@ -63,7 +63,7 @@ from_to low high (negsuc n) = None
 
 -- a limit of time, in seconds
 abbrev pub ttl_in : List Kind → Option ℕ
-ttl g = option_and_then (from_to 0 4294967295) (integer g)
+ttl_in g = option_and_then (from_to 0 4294967295) (integer g)
 
 abbrev pub moment : List Kind → Option ℕ
 moment g = option_and_then (from_to 0 last_moment) (integer g)
