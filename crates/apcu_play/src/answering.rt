@@ -37,25 +37,27 @@ fn status_of(fault: CrewFault) -> Status
     }
 }
 
-// What the scripts of an input come to, as it is to be printed.
+// What the scripts of an input come to, as it is to be printed. The input's memory goes before they
+// are played, so that the replies may take it.
 fn answer_input<R: Threads + Wait + Sync, M: Maker + Sync, G: Gate + Sync>(
     rt: &R,
     alloc: Global,
     settings: &Settings,
-    bytes: &[u8],
+    bytes: Vec<u8>,
     preload: Option<u64>,
     map: bool,
     maker: &M,
     gate: &G,
 ) -> Result<Printed, Ending>
     requires good { IsGood settings.now.conf }
-    requires short { length bytes.now ≤ LONGEST_INPUT }
-    ensures answer { IfOk result (λ p. AnswersBytes settings.now (Play preload map) bytes.now
+    requires short { length bytes.items ≤ LONGEST_INPUT }
+    ensures answer { IfOk result (λ p. AnswersBytes settings.now (Play preload map) bytes.items
         p.ends (worker_texts 0 p.texts.items ++ p.rest)) }
     ensures cause { IfErr result (IsCauseIn (M.may_refuse maker.now) settings.now.conf
-        (Play preload map) bytes.now) }
+        (Play preload map) bytes.items) }
 {
-    let crew = crew_of(alloc, bytes, preload)?;
+    let crew = crew_of(alloc, &bytes, preload)?;
+    drop(bytes);
     let played = play(rt, alloc, settings, &crew, preload, map, maker, gate);
     // The program ends soon, and its memory goes at once.
     forget(crew);
@@ -150,7 +152,7 @@ pub(crate) fn answer<R: Threads + Wait + Sync, S: Source, M: Maker + Sync, G: Ga
     match settings.task {
         Task::Play { preload, map } => {
             let bytes = input_of(alloc, input)?;
-            answer_input(rt, alloc, settings, &bytes, preload, map, maker, gate)
+            answer_input(rt, alloc, settings, bytes, preload, map, maker, gate)
         }
         Task::Generate {
             seed,

@@ -8,13 +8,13 @@ pub returns-in_err-crew-clause-cause : goal.returns-in_err-crew-clause-cause
 returns-in_err-crew-clause-cause g c =
     let p = err_from_is_err_and c.from_residual.result c.from_residual.ensures.1 in
     let conf = c.args.settings.now.conf in
-    rw (p.1, p.2) (cause_in_for (g.M.Maker.may_refuse c.args.maker.now) conf (Play c.args.preload c.args.map) c.args.bytes.now _ (c.in_err-crew.ensures.cause conf c.args.map))
+    rw (p.1, p.2) (cause_in_for (g.M.Maker.may_refuse c.args.maker.now) conf (Play c.args.preload c.args.map) c.args.bytes.items _ (c.in_err-crew.ensures.cause conf c.args.map))
 
 pub returns-in-Err-clause-cause : goal.returns-in-Err-clause-cause
 returns-in-Err-clause-cause g c =
     let conf = c.args.settings.now.conf in
     let crew = c.in_ok-crew.crew in
-    crew_cause (g.M.Maker.may_refuse c.args.maker.now) conf (Play c.args.preload c.args.map) c.args.bytes.now c.in-Err.fault crew c.of.result (c.of.ensures ∙ c.status_of.ensures) c.in_ok-crew.ensures.crew
+    crew_cause (g.M.Maker.may_refuse c.args.maker.now) conf (Play c.args.preload c.args.map) c.args.bytes.items c.in-Err.fault crew c.of.result (c.of.ensures ∙ c.status_of.ensures) c.in_ok-crew.ensures.crew
     (λ e. many_of c.args.preload conf crew (c.in-Err.ensures.many e))
     (λ e. (few_of c.args.preload conf crew (c.in-Err.ensures.pattern e).0 c.in_ok-crew.ensures.most, (c.in-Err.ensures.pattern e).1))
     (λ before after crowded. crowded)
