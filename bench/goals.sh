@@ -24,8 +24,7 @@ bench=$2
 divide=${DIVIDE:-1}
 scratch=$(mktemp -d)
 trap 'rm -rf "$scratch"' EXIT
-# The large pages that the wrapper asks for.
-export GLIBC_TUNABLES=glibc.malloc.hugetlb=1
+. "$here/malloc.sh"
 . "$here/quiet.sh"
 . "$here/generate/parts.sh"
 . "$here/play/parts.sh"
