@@ -18,7 +18,7 @@ loop-i-preserved c =
     let key : List ℕ = c.index-keys-i.result in
     noted_more (got_in c.args.default.now) _ (lent_notes c.loop-i.notes) (lent_notes c.note.new.self) key c.index-replies-i.result _ (drop (i + 1) xs) _ (drop (i + 1) rs)
     (split_at xs i key within.0 c.index-keys-i.is) (split_at rs i c.index-replies-i.result within.1 c.index-replies-i.is)
-    (ap lent_notes c.in_ok-note.ensures ∙ (lent_noted key c.value_or_default.result c.loop-i.notes ∙ ap (λ (g : List Kind). noted key g (lent_notes c.loop-i.notes)) c.value_or.ensures)) c.loop-i.invariant
+    (ap lent_notes c.in_ok-note.ensures ∙ (lent_noted key c.value_or_default.result c.loop-i.notes ∙ ap (λ (g : List Kind). noted key g (lent_notes c.loop-i.notes)) c.value_or_default.ensures)) c.loop-i.invariant
 
 pub returns : goal.returns
 returns c =
