@@ -15,6 +15,7 @@ use Rattle.script_read.specs.Budgets.{events_in, budgets_of}
 use Rattle.script_read.specs.Clock.{timed, all_timed}
 use Rattle.script_read.specs.Patterns.{HasRefusable, SomeRefusable}
 use Rattle.worker_play.specs.Ends.{Ends}
+use Rattle.worker_play.specs.declared.script.Lines.TheVariants.{Kept}
 use Rattle.worker_play.specs.declared.script.PlayFault.{PlayFault}
 use Rattle.worker_play.specs.declared.script.PlayFault.TheVariants.{Pattern}
 use Rattle.crew_play.specs.Crew.{AllEnd}
@@ -83,7 +84,7 @@ all_none t conf scripts = record {
 
 -- one worker more has ended
 pub all_more : (t : TableId) (conf : Conf) (scripts : List (List Step)) (n : ℕ) (ended : List PassView) (texts : List (Result (List ℕ) PlayFault)) (script : List Step) (b : PassView) (text : Result (List ℕ) PlayFault)
-    → slice_get scripts n ≡ Some script → AllEnd t conf scripts n ended texts → Ends t conf n script b (result_ok text) → AllEnd t conf scripts (suc n) (ended ++ b ∷ []) (texts ++ text ∷ [])
+    → slice_get scripts n ≡ Some script → AllEnd t conf scripts n ended texts → Ends t conf n Kept script b (result_ok text) → AllEnd t conf scripts (suc n) (ended ++ b ∷ []) (texts ++ text ∷ [])
 all_more t conf scripts n ended texts script b text is all one = record {
   have_ended = omega (arith, length-append ended (b ∷ []), all.have_ended);
   have_texts = omega (arith, length-append texts (text ∷ []), all.have_texts);
@@ -98,15 +99,15 @@ all_more t conf scripts n ended texts script b text is all one = record {
           let here : w ≡ n = at ∙ all.have_ended in
           let its : Some script ≡ Some s = sym is ∙ (ap (slice_get scripts) (sym here) ∙ hs) in
           let whose : script ≡ s = cc (its) in
-          subst (λ v. Ends t conf v s c (result_ok x)) (sym here)
-          (subst (λ v. Ends t conf n v c (result_ok x)) whose (subst (λ v. Ends t conf n script v (result_ok x)) e (subst (λ (v : Result (List ℕ) PlayFault). Ends t conf n script b (result_ok v)) same one)))
+          subst (λ v. Ends t conf v Kept s c (result_ok x)) (sym here)
+          (subst (λ v. Ends t conf n Kept v c (result_ok x)) whose (subst (λ v. Ends t conf n Kept script v (result_ok x)) e (subst (λ (v : Result (List ℕ) PlayFault). Ends t conf n Kept script b (result_ok v)) same one)))
     ]
   ];
 }
 
 -- so it is where lists have grown by it
 pub all_with : (t : TableId) (conf : Conf) (clock : Clock) (scripts : List (List Step)) (n count : ℕ) (front ended : List PassView) (fronts texts : List (Result (List ℕ) PlayFault)) (script : List Step) (b : PassView) (text : Result (List ℕ) PlayFault)
-    → suc n ≡ count → slice_get scripts n ≡ Some script → AllEnd t conf (all_timed clock scripts) n front fronts → Ends t conf n (timed clock script) b (result_ok text) → ended ≡ front ++ b ∷ [] → texts ≡ fronts ++ text ∷ []
+    → suc n ≡ count → slice_get scripts n ≡ Some script → AllEnd t conf (all_timed clock scripts) n front fronts → Ends t conf n Kept (timed clock script) b (result_ok text) → ended ≡ front ++ b ∷ [] → texts ≡ fronts ++ text ∷ []
     → AllEnd t conf (all_timed clock scripts) count ended texts
 all_with t conf clock scripts n count front ended fronts texts script b text is there all one more told =
     let whole = all_more t conf (all_timed clock scripts) n front fronts (timed clock script) b text (get-map (timed clock) scripts n script there) all one in

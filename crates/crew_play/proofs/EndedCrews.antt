@@ -63,7 +63,7 @@ its_place t conf scripts ended texts all k b h =
     let s = get_some scripts k few in
     let x = get_some texts k (omega (arith, few, all.have_texts)) in
     let e = all.each k s.0 b x.0 s.1 h x.1 in
-    (e.table, e.worker, few)
+    (e.ended.table, e.ended.worker, few)
 
 pub all_of : (t : TableId) (conf : Conf) (scripts : List (List Step)) (ended : List PassView) (texts : List (Result (List ℕ) PlayFault)) → AllEnd t conf scripts (length scripts) ended texts → AllOf t ended
 all_of t conf scripts ended texts all k b h = (its_place t conf scripts ended texts all k b h).0
@@ -138,13 +138,13 @@ out : OthersLaw → (t : TableId) (conf : Conf) (workers : ℕ) (scripts : List 
 out law t conf workers scripts ended texts closed all c k script text hs ht =
     let b = get_some ended k (omega (arith, slice_get_within scripts k script hs, all.have_ended)) in
     let e = all.each k script b.0 (Ok text) hs b.1 (get-map Ok texts k text ht) in
-    let whole : events_of k c.history ≡ b.0.known.own = ap (λ v. events_of v c.history) (sym e.worker) ∙ c.own k b.0 b.1 in
+    let whole : events_of k c.history ≡ b.0.known.own = ap (λ v. events_of v c.history) (sym e.ended.worker) ∙ c.own k b.0 b.1 in
     let had : own_replies conf b.0.known.worker b.0.known.seen ≡ own_replies conf k c.history =
-    replies_whole law conf b.0.known.worker b.0.known.seen c.history b.0.known.own (c.seen k b.0 b.1) e.all_own (c.own k b.0 b.1) ∙ ap (λ v. own_replies conf v c.history) e.worker in
+    replies_whole law conf b.0.known.worker b.0.known.seen c.history b.0.known.own (c.seen k b.0 b.1) e.ended.all_own (c.own k b.0 b.1) ∙ ap (λ v. own_replies conf v c.history) e.ended.worker in
     record {
       played = subst (λ (rs : List Reply). HasPlayed conf script (map wish_in (events_of k c.history)) rs) had
           (subst (λ (own : List Event). HasPlayed conf script (map wish_in own) (own_replies conf b.0.known.worker b.0.known.seen)) (sym whole) e.plays.played);
-      lines = e.plays.lines ∙ ap (script_lines conf script) had;
+      lines = e.plays.is ∙ ap (script_lines conf script) had;
     }
 
 pub record PlayLaws : Type 0 where

@@ -107,8 +107,8 @@ come_first t conf workers scripts ended texts closed n last all first c =
     let e = all.each n s.0 b.0 x.0 s.1 b.1 x.1 in
     let seen = b.0.known.seen in
     let prefix = c.seen n b.0 b.1 in
-    let own : events_of n seen ≡ b.0.known.own = ap (λ v. events_of v seen) (sym e.worker) ∙ e.all_own in
-    let whole : events_of n c.history ≡ b.0.known.own = ap (λ v. events_of v c.history) (sym e.worker) ∙ c.own n b.0 b.1 in
+    let own : events_of n seen ≡ b.0.known.own = ap (λ v. events_of v seen) (sym e.ended.worker) ∙ e.ended.all_own in
+    let whole : events_of n c.history ≡ b.0.known.own = ap (λ v. events_of v c.history) (sym e.ended.worker) ∙ c.own n b.0 b.1 in
     record {
       own = marks_of seen;
       others = marks_of prefix.0;

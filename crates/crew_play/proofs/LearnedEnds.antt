@@ -1,6 +1,7 @@
 -- Worker 0 learns of the others' ends, one after the other.
 use Rattle.std.proofs.Common.{◌≡◌, ℕ, suc, ◌≤◌, inl, inr, Bool, true, false, List, [], ◌∷◌, ◌++◌, length, map, slice_get, Some, refl, sym, ap, ap₂, ◌∙◌, subst, arith, length-append, append_assoc}
-use Rattle.std.specs.Prelude.{Result, Ok, Err, OnOk, is_ok, ◌&&◌}
+use Rattle.std.specs.Prelude.{Result, Ok, Err, OnOk, IfSome, is_ok, ◌&&◌}
+use Rattle.std.specs.Result.{result_ok}
 use Rattle.std.proofs.lemmas.List.{nil_from_length}
 use mathlib.Core.List.{IsPrefix}
 use Rattle.atomic_table.specs.Seated.{TableId}
@@ -14,7 +15,8 @@ use Rattle.play_laws.specs.Own.{own_replies, wish_in, AreInTurn}
 use Rattle.play_laws.specs.Parts.{events-append}
 use Rattle.shared_cache.specs.LearnedEnds.{Learns}
 use Rattle.script_read.specs.Play.{wanted}
-use Rattle.worker_play.specs.Ends.{HasEnded, HasMade, PlaysAll}
+use Rattle.worker_play.specs.declared.script.Lines.{Lines}
+use Rattle.worker_play.specs.Ends.{HasEnded, HasMade, PlaysAll, PlaysOut}
 use Rattle.worker_play.specs.Goes.{KnowsOwnEvents}
 use Rattle.crew_play.specs.GeneratedRuns.{HaveMade}
 use Rattle.crew_play.proofs.Crews.{get_more}
@@ -103,3 +105,7 @@ pub own_made : {X E P : Type 0} (others : Bool) (r : Result X E) → (others && 
 own_made true (Ok x) so p = p
 own_made true (Err e) so p = absurd (cc (so))
 own_made false r so p = absurd (cc (so))
+
+pub all_played : {E : Type 0} (conf : Conf) (lines : Lines) (script : List Step) (b : PassView) (r : Result (List ℕ) E) → IfSome (result_ok r) (λ text. PlaysOut conf lines script b text) → OnOk r (PlaysAll conf script b)
+all_played conf lines script b (Ok text) plays = plays.played
+all_played conf lines script b (Err e) plays = tt

@@ -127,7 +127,7 @@ pub record SummaryLaws : Type 0 where
 -- ---- the whole, where worker 0 has these draws
 
 module _ (law : OthersLaw) (plays_laws : PlayLaws) (wishes : WishLaws) (sums : SummaryLaws) (t : TableId) (conf : Conf) (seed workers calls : ℕ) (own : List Draw) (rest : List (List Step)) (first end : PassView) (others : List PassView) (numbers : List ℤ) (closed : Closed)
-    (run : IsRun conf seed workers calls (generated seed workers calls)) (count : length own ≡ calls) (are : generated seed workers calls ≡ steps_of_draws 0 own ∷ rest)
+    (run : IsRun conf workers calls) (count : length own ≡ calls) (are : generated seed workers calls ≡ steps_of_draws 0 own ∷ rest)
     (h : HaveMade t conf (steps_of_draws 0 own ∷ rest) workers first others true) (o : Observes conf workers first end numbers) (c : IsClosed conf workers (others ++ end ∷ []) closed) where
   abbrev scripts : List (List Step)
   scripts = steps_of_draws 0 own ∷ rest
@@ -271,10 +271,9 @@ first_drawn seed workers calls some =
       count = d.count;
     }
 
-pub watched : OthersLaw → PlayLaws → WishLaws → SummaryLaws → (t : TableId) (conf : Conf) (seed workers calls : ℕ) (given : List (List Step)) (first end : PassView) (others : List PassView) (all : Bool) (numbers : List ℤ) (closed : Closed) → IsRun conf seed workers calls given
-    → HaveMade t conf given workers first others all → all ≡ true → Observes conf workers first end numbers → IsClosed conf workers (others ++ end ∷ []) closed → IsWatched conf seed workers calls (record { inserts = closed.counts.inserts; counters = numbers })
-watched law play_law wishes sums t conf seed workers calls given first end others all numbers closed run h so o c =
+pub watched : OthersLaw → PlayLaws → WishLaws → SummaryLaws → (t : TableId) (conf : Conf) (seed workers calls : ℕ) (first end : PassView) (others : List PassView) (all : Bool) (numbers : List ℤ) (closed : Closed) → IsRun conf workers calls
+    → HaveMade t conf (generated seed workers calls) workers first others all → all ≡ true → Observes conf workers first end numbers → IsClosed conf workers (others ++ end ∷ []) closed → IsWatched conf seed workers calls (record { inserts = closed.counts.inserts; counters = numbers })
+watched law play_law wishes sums t conf seed workers calls first end others all numbers closed run h so o c =
     let d = first_drawn seed workers calls run.some in
-    let run_so = subst (λ (l : List (List Step)). IsRun conf seed workers calls l) run.scripts_are run in
-    let made = subst (λ b. HaveMade t conf (steps_of_draws 0 d.own ∷ d.rest) workers first others b) so (subst (λ (l : List (List Step)). HaveMade t conf l workers first others all) (run.scripts_are ∙ d.are) h) in
-    is_watched law play_law wishes sums t conf seed workers calls d.own d.rest first end others numbers closed run_so d.count d.are made o c
+    let made = subst (λ b. HaveMade t conf (steps_of_draws 0 d.own ∷ d.rest) workers first others b) so (subst (λ (l : List (List Step)). HaveMade t conf l workers first others all) d.are h) in
+    is_watched law play_law wishes sums t conf seed workers calls d.own d.rest first end others numbers closed run d.count d.are made o c

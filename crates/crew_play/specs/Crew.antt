@@ -6,6 +6,7 @@ use Rattle.apcu_model.specs.declared.conf.Conf.{Conf}
 use Rattle.pin_table.specs.Values.{PassView}
 use Rattle.pin_table.specs.Events.{events_of}
 use Rattle.script_read.specs.declared.script.Step.{Step}
+use Rattle.worker_play.specs.declared.script.Lines.TheVariants.{Kept}
 use Rattle.worker_play.specs.declared.script.PlayFault.{PlayFault}
 use Rattle.worker_play.specs.Ends.{Ends}
 
@@ -16,7 +17,7 @@ pub record AllEnd (t : TableId) (conf : Conf) (scripts : List (List Step)) (coun
   pub have_texts : length texts ≡ count
   pub each : (w : ℕ) (script : List Step) (b : PassView) (text : Result (List ℕ) PlayFault)
       → slice_get scripts w ≡ Some script → slice_get ended w ≡ Some b
-      → slice_get texts w ≡ Some text → Ends t conf w script b (result_ok text)
+      → slice_get texts w ≡ Some text → Ends t conf w Kept script b (result_ok text)
 
 -- When it ended, none of the first so many workers had made an event.
 abbrev pub EndsBefore : ℕ → PassView → Type 0

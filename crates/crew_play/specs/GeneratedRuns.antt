@@ -36,13 +36,11 @@ pub record IsWatched (conf : Conf) (seed workers calls : ℕ) (watched : Summary
 -- ---- on the way
 
 -- what such a run starts from
-pub record IsRun (conf : Conf) (seed workers calls : ℕ) (scripts : List (List Step))
-    : Type 0 where
+pub record IsRun (conf : Conf) (workers calls : ℕ) : Type 0 where
   pub large : IsLarge conf
   pub some : 1 ≤ workers
   pub most : workers ≤ MOST_WORKERS
   pub few : workers * (calls + 1) ≤ most_events
-  pub scripts_are : scripts ≡ generated seed workers calls
 
 -- how many events each worker may make: worker 0 its calls, eight looks and its end, the others
 -- their calls and their end

@@ -14,6 +14,7 @@ ghost use Rattle.pin_table.specs.Events.{events_of};
 ghost use Rattle.crew_play.specs.Crew.{AllEnd, EndsBefore};
 ghost use Rattle.worker_play.specs.Ends.{Ends};
 ghost use Rattle.worker_play.specs.Goes.{KnowsOwnEvents};
+ghost use Rattle.worker_play.specs.declared.script.Lines.TheVariants.{Kept};
 ghost use Rattle.worker_play.specs.declared.script.PlayFault.TheVariants as faults;
 
 use crate::cast::Cast;
@@ -21,11 +22,28 @@ use apcu_iter::Maker;
 use io_edges::Gate;
 use notation::ByteOut;
 use pin_table::{Ended, EndedList, Pass, Passes, TableName};
-use script_read::{Script, Scripts, scripts_cross};
+use script_read::{Script, ScriptSteps, Scripts, scripts_cross};
 use shared_cache::Shared;
 use std::sync::Wait;
 use std::thread::{Threads, join};
-use worker_play::{Context, PlayFault, play_out};
+use worker_play::{Context, Lines, PlayFault, play_out};
+
+// The pass of the last of the first `count` workers.
+pub(crate) fn last_pass<N: TableName>(passes: &mut Passes, count: u32) -> Pass
+    requires some { 0 < count }
+    requires passes { passes.old ≡ first_passes N.table N.budgets count }
+    ensures rest { passes.new ≡ first_passes N.table N.budgets (count - 1) }
+    ensures table { result.table ≡ N.table }
+    ensures worker { result.known.worker ≡ count - 1 }
+    ensures no_event { result.known.own ≡ [] }
+    ensures whole { KnowsOwnEvents result }
+    ensures left { result.known.left ≡ slice_index N.budgets (count - 1) }
+{
+    let Some(pass) = passes.pop() else {
+        unreachable!()
+    };
+    pass
+}
 
 // The last of the first `count` workers: its pass and its script.
 pub(crate) fn last_worker<'a, N: TableName>(
@@ -44,13 +62,9 @@ pub(crate) fn last_worker<'a, N: TableName>(
     ensures worker { result.0.known.worker ≡ count - 1 }
     ensures no_event { result.0.known.own ≡ [] }
     ensures whole { KnowsOwnEvents result.0 }
-    ensures left { result.0.known.left ≡ slice_index N.budgets (count - 1) }
     ensures enough { events_in N.conf.slots result.1.now < result.0.known.left }
 {
-    let Some(pass) = passes.pop() else {
-        unreachable!()
-    };
-    (pass, scripts.at(count - 1))
+    (last_pass::<N>(passes, count), scripts.at(count - 1))
 }
 
 // Has a worker that has not begun learn of the end of the one that came first, if one did.
@@ -165,7 +179,7 @@ pub(crate) fn play_crew<
             requires { (conf.now ≡ N.conf) × (pass.table ≡ N.table)
                 × (pass.known.own ≡ []) × KnowsOwnEvents pass
                 × (events_in N.conf.slots script.now < pass.known.left) }
-            ensures { Ends N.table N.conf pass.known.worker (timed clock script.entry.now)
+            ensures { Ends N.table N.conf pass.known.worker Kept (timed clock script.entry.now)
                 result.0 (result_ok result.1)
                 × IfErr result.1 (λ e. e ≡ faults.Pattern
                 → HasRefusable (M.may_refuse maker.entry.now) script.entry.now) }
@@ -177,7 +191,8 @@ pub(crate) fn play_crew<
                 gate,
                 slots: conf.slots,
             };
-            play_out(&context, maker, pass, script, clock)
+            let steps = ScriptSteps::of(script);
+            play_out(&context, maker, pass, steps, clock, Lines::Kept)
         },
     );
     let (first, mut ended, mut texts) = front;

@@ -1,37 +1,41 @@
 //! Generated scripts on one cache, and what is told of them.
 
-ghost use Rattle.std.specs.Prelude.{◌≡◌, ◌≢◌, ℕ, ◌+◌, ◌*◌, ◌<◌, ◌≤◌, [], length, IfOk, IfErr, OnOk};
-ghost use Rattle.std.specs.Prelude.{IsTrue, IsFalse, is_ok, ◌&&◌};
+ghost use Rattle.std.specs.Prelude.{◌≡◌, ◌≢◌, ℕ, List, ◌+◌, ◌*◌, ◌<◌, ◌≤◌, [], Some, length};
+ghost use Rattle.std.specs.Prelude.{slice_get, slice_index, IfOk, IfErr, IsTrue, IsFalse, is_ok, ◌&&◌};
+ghost use Rattle.std.specs.Result.{result_ok};
 ghost use Rattle.std.specs.Thread.{IsSync};
+ghost use Rattle.apcu_model.specs.declared.conf.Clock.TheVariants.{Line};
 ghost use Rattle.apcu_model.specs.declared.limits.TheConstants.{MOST_WORKERS};
-ghost use Rattle.script_read.specs.Budgets.{events_in, most_events};
+ghost use Rattle.script_read.specs.declared.script.Step.{Step};
+ghost use Rattle.script_read.specs.Budgets.{most_events};
 ghost use Rattle.script_read.specs.Clock.{timed, all_timed};
+ghost use Rattle.script_read.specs.GeneratedScripts.{generated};
 ghost use Rattle.pin_table.specs.Lists.{first_passes};
 ghost use Rattle.play_laws.specs.Summary.{IsLarge};
-ghost use Rattle.worker_play.specs.Ends.{HasEnded, PlaysAll};
+ghost use Rattle.worker_play.specs.Ends.{Ends};
 ghost use Rattle.worker_play.specs.Goes.{KnowsOwnEvents};
+ghost use Rattle.worker_play.specs.declared.script.Lines.TheVariants.{Dropped};
 ghost use Rattle.crew_play.specs.GeneratedRuns.{summary_in, watched_budgets, IsRun, IsWatched};
 ghost use Rattle.crew_play.specs.GeneratedRuns.{HaveEnough, HaveMade};
 ghost use Rattle.crew_play.specs.declared.play.CrewFault.TheVariants.{Memory, TooMany, Pattern};
 
-use crate::cast::Cast;
-use crate::crew::last_worker;
+use crate::crew::last_pass;
 use crate::play::CrewFault;
 use apcu_iter::Maker;
 use apcu_model::{Clock, Conf, MOST_EVENTS};
 use io_edges::Gate;
+use notation::ByteOut;
 use pin_table::{Ended, EndedList, Pass, Passes, TableName};
 use play_laws::{
     generated_wishes, histories_are_plays, looks_come_last, one_event_own, summaries_agree,
 };
-use script_read::{Scripts, generate, scripts_cross};
+use script_read::DrawnSteps;
 use shared_cache::{Closed, Fresh, Shared, open_cache};
 use std::alloc::{AllocError, Global};
 use std::marker::Brand;
-use std::mem::forget;
 use std::sync::Wait;
 use std::thread::{Threads, join};
-use worker_play::{Context, PlayFault, observe, play_out_quietly, play_quietly};
+use worker_play::{Context, Lines, PlayFault, observe, play_lines, play_out};
 
 /// What is told of a generated run.
 #[derive(Clone, Copy, Debug, PartialEq, Eq)]
@@ -54,15 +58,27 @@ fn budgets(alloc: Global, workers: u32, calls: u32) -> Result<Vec<u32>, AllocErr
 }
 
 // Whether others have made all their calls, and so has the worker that played so.
-fn and_made(others: bool, played: Result<(), PlayFault>) -> bool
+fn and_made(others: bool, played: Result<ByteOut, PlayFault>) -> bool
     ensures { result ≡ (others && is_ok played) }
 {
     others && played.is_ok()
 }
 
-// Plays the scripts of the first `count` workers, each on a thread of its own. All but worker 0 end
-// in their order, and worker 0 learns of their ends. What comes back beside its pass and them tells
-// whether each has made all its calls.
+// What all workers of a generated run are played with.
+#[derive(Drop)]
+struct Draws<'a, M, G> {
+    alloc: Global,
+    conf: &'a Conf,
+    seed: u64,
+    workers: u32,
+    calls: u32,
+    maker: &'a M,
+    gate: &'a G,
+}
+
+// Plays the generated scripts of the first `count` workers, each on a thread of its own. All but
+// worker 0 end in their order, and worker 0 learns of their ends. What comes back beside its pass
+// and them tells whether each has made all its calls.
 fn play_drawn<
     N: TableName + Send + Sync,
     M: Maker + Sync,
@@ -70,33 +86,35 @@ fn play_drawn<
     R: Threads + Wait + Sync,
 >(
     rt: &R,
-    cast: &Cast<M, G>,
+    draws: &Draws<M, G>,
     shared: &Shared<N>,
     mut passes: Passes,
     ended: EndedList,
     count: u32,
 ) -> (Pass, EndedList, bool)
-    requires conf { cast.now.conf.now ≡ N.conf }
-    requires enough { HaveEnough N.conf.slots N.budgets cast.now.scripts.now }
+    requires conf { draws.now.conf.now ≡ N.conf }
+    requires enough { HaveEnough N.conf.slots N.budgets
+        (generated draws.now.seed draws.now.workers draws.now.calls) }
     requires some { 1 ≤ count }
-    requires scripts { count ≤ length cast.now.scripts.now }
+    requires few { count ≤ draws.now.workers }
     requires passes { passes ≡ first_passes N.table N.budgets count }
     requires none_ended { ended.ended ≡ [] }
     requires seats { count ≤ ended.room }
-    ensures made { HaveMade N.table N.conf (all_timed cast.now.clock cast.now.scripts.now) count
+    ensures made { HaveMade N.table N.conf
+        (all_timed Line (generated draws.now.seed draws.now.workers draws.now.calls)) count
         result.0 result.1.ended result.2 }
     ensures seats { result.1.room + count ≡ ended.room + 1 }
 {
-    scripts_cross();
     one_event_own();
-    let alloc = cast.alloc;
-    let conf = cast.conf;
-    let scripts = cast.scripts;
-    let maker = cast.maker;
-    let gate = cast.gate;
-    let clock = cast.clock;
+    let alloc = draws.alloc;
+    let conf = draws.conf;
+    let seed = draws.seed;
+    let workers = draws.workers;
+    let calls = draws.calls;
+    let maker = draws.maker;
+    let gate = draws.gate;
     let before = count - 1;
-    let (pass, script) = last_worker::<N>(&mut passes, scripts, count);
+    let pass = last_pass::<N>(&mut passes, count);
     if before == 0 {
         let context = Context {
             rt,
@@ -105,7 +123,8 @@ fn play_drawn<
             gate,
             slots: conf.slots,
         };
-        let (pass, played) = play_quietly(&context, maker, pass, script, clock);
+        let steps = DrawnSteps::of(alloc, seed, workers, calls, 0);
+        let (pass, played) = play_lines(&context, maker, pass, steps, Clock::Line, Lines::Dropped);
         return (pass, ended, and_made(true, played));
     }
     let (front, last) = join(
@@ -113,30 +132,34 @@ fn play_drawn<
         || -> (Pass, EndedList, bool)
             requires { IsSync R.row × IsSync M.row × IsSync G.row
                 × (conf.now ≡ N.conf)
-                × HaveEnough N.conf.slots N.budgets scripts.now
-                × (1 ≤ before) × (before ≤ length scripts.now)
+                × HaveEnough N.conf.slots N.budgets (generated seed workers calls)
+                × (1 ≤ before) × (before ≤ workers)
                 × (passes ≡ first_passes N.table N.budgets before)
                 × (ended.ended ≡ []) × (before ≤ ended.room) }
-            ensures { HaveMade N.table N.conf (all_timed clock scripts.entry.now) before
+            ensures { HaveMade N.table N.conf (all_timed Line (generated seed workers calls)) before
                 result.0 result.1.ended result.2
                 × (result.1.room + before ≡ ended.room + 1) }
         {
-            let cast = Cast {
+            let draws = Draws {
                 alloc,
                 conf,
-                scripts,
+                seed,
+                workers,
+                calls,
                 maker,
                 gate,
-                clock,
             };
-            play_drawn(rt, &cast, shared, passes, ended, before)
+            play_drawn(rt, &draws, shared, passes, ended, before)
         },
-        || -> (Ended, Result<(), PlayFault>)
-            requires { (conf.now ≡ N.conf) × (pass.table ≡ N.table)
+        || -> (Ended, Result<ByteOut, PlayFault>)
+            requires { (conf.now ≡ N.conf) × (pass.table ≡ N.table) × (before < workers)
                 × (pass.known.own ≡ []) × KnowsOwnEvents pass
-                × (events_in N.conf.slots script.now < pass.known.left) }
-            ensures { HasEnded N.table pass.known.worker result.0
-                × OnOk result.1 (PlaysAll N.conf (timed clock script.entry.now) result.0) }
+                × HaveEnough N.conf.slots N.budgets (generated seed workers calls)
+                × (pass.known.left ≡ slice_index N.budgets before) }
+            ensures { (script : List Step)
+                → slice_get (generated seed workers calls) before ≡ Some script
+                → Ends N.table N.conf pass.known.worker Dropped (timed Line script)
+                result.0 (result_ok result.1) }
         {
             let context = Context {
                 rt,
@@ -145,7 +168,8 @@ fn play_drawn<
                 gate,
                 slots: conf.slots,
             };
-            play_out_quietly(&context, maker, pass, script, clock)
+            let steps = DrawnSteps::of(alloc, seed, workers, calls, before);
+            play_out(&context, maker, pass, steps, Clock::Line, Lines::Dropped)
         },
     );
     let (first, mut ended, all) = front;
@@ -161,25 +185,17 @@ fn play_watched<
     M: Maker + Sync,
     G: Gate + Sync,
     R: Threads + Wait + Sync,
->(
-    rt: &R,
-    alloc: Global,
-    conf: &Conf,
-    fresh: Fresh,
-    scripts: &Scripts,
-    maker: &M,
-    gate: &G,
-) -> Result<Watched, CrewFault>
+>(rt: &R, draws: &Draws<M, G>, fresh: Fresh) -> Result<Watched, CrewFault>
     requires table { N.table ≡ fresh.table }
     requires conf { N.conf ≡ fresh.conf }
     requires budgets { N.budgets ≡ fresh.budgets }
-    requires shape { fresh.conf ≡ conf.now }
-    requires some { 1 ≤ length scripts.now }
-    requires workers { length fresh.budgets ≡ length scripts.now }
-    requires enough { HaveEnough conf.now.slots fresh.budgets scripts.now }
-    ensures watched { (seed calls : ℕ) → IsRun conf.now seed (length scripts.now) calls scripts.now
-        → IfOk result (λ w.
-        IsWatched conf.now seed (length scripts.now) calls (summary_in w)) }
+    requires shape { fresh.conf ≡ draws.now.conf.now }
+    requires run { IsRun draws.now.conf.now draws.now.workers draws.now.calls }
+    requires workers { length fresh.budgets ≡ draws.now.workers }
+    requires enough { HaveEnough draws.now.conf.now.slots fresh.budgets
+        (generated draws.now.seed draws.now.workers draws.now.calls) }
+    ensures watched { IfOk result (λ w. IsWatched draws.now.conf.now
+        draws.now.seed draws.now.workers draws.now.calls (summary_in w)) }
     ensures memory { IfErr result (λ e. e ≡ Memory) }
 {
     one_event_own();
@@ -187,18 +203,9 @@ fn play_watched<
     generated_wishes();
     summaries_agree();
     looks_come_last();
-    let count = scripts.len();
     let (shared, passes, ended) = fresh.name::<N>();
-    let cast = Cast {
-        alloc,
-        conf,
-        scripts,
-        maker,
-        gate,
-        clock: Clock::Line,
-    };
-    let (first, mut ended, all) = play_drawn(rt, &cast, &shared, passes, ended, count);
-    let (end, counters) = observe(rt, alloc, &shared, first);
+    let (first, mut ended, all) = play_drawn(rt, draws, &shared, passes, ended, draws.workers);
+    let (end, counters) = observe(rt, draws.alloc, &shared, first);
     ended.push(end);
     let Closed { journal: _, counts } = shared.close(rt, ended);
     if !all {
@@ -225,15 +232,14 @@ fn are_too_many(workers: u32, calls: u32) -> bool
 /// Once all workers have made their calls and all but worker 0 have ended, worker 0 learns of their
 /// ends, looks at the counters `c0` to `c7` in order, and ends.
 ///
-/// No reply and no line is kept, and the journal is dropped. What is told is of a play of the
+/// Each call is made when its worker comes to it. No reply and no line is kept, and the journal is
+/// dropped. What is told is of a play of the
 /// scripts in which the looks come last, and it is the same for every such play: the number of
 /// stores and of different counters, and the sum of each counter's steps.
 ///
 /// Nothing is made and nothing is played where the calls and the ends of all workers, and nine
 /// events more, are above 4,194,304: that is `TooMany`. A worker that finds no memory ends, the
 /// others play on, and the answer is `Memory`. No call has a pattern, so `Pattern` is no answer.
-///
-/// The memory of the scripts is not given back: the run is what a program makes, and ends with it.
 pub fn play_generated<M: Maker + Sync, G: Gate + Sync, R: Threads + Wait + Sync>(
     rt: &R,
     alloc: Global,
@@ -257,16 +263,18 @@ pub fn play_generated<M: Maker + Sync, G: Gate + Sync, R: Threads + Wait + Sync>
     if are_too_many(workers, calls) {
         return Err(CrewFault::TooMany);
     }
-    let scripts = generate(alloc, seed, workers, calls)?;
     let budgets = budgets(alloc, workers, calls)?;
+    let draws = Draws {
+        alloc,
+        conf,
+        seed,
+        workers,
+        calls,
+        maker,
+        gate,
+    };
     match open_cache(rt, alloc, conf, &budgets) {
-        Ok(fresh) => {
-            let watched = play_watched::<Brand, M, G, R>(
-                rt, alloc, conf, fresh, &scripts, maker, gate,
-            );
-            forget(scripts);
-            watched
-        }
+        Ok(fresh) => play_watched::<Brand, M, G, R>(rt, &draws, fresh),
         Err(_) => Err(CrewFault::Memory),
     }
 }

@@ -15,10 +15,11 @@ use apcu_iter::Maker;
 use io_edges::Gate;
 use notation::ByteOut;
 use pin_table::{EndedList, Passes, TableName};
+use script_read::ScriptSteps;
 use shared_cache::Shared;
 use std::sync::Wait;
 use std::thread::Threads;
-use worker_play::{Context, PlayFault, play_out};
+use worker_play::{Context, Lines, PlayFault, play_out};
 
 // When workers start.
 #[derive(Clone, Copy)]
@@ -75,7 +76,8 @@ pub(crate) fn play_all<
                 gate: cast.gate,
                 slots: cast.conf.slots,
             };
-            let (end, text) = play_out(&context, cast.maker, pass, script, cast.clock);
+            let steps = ScriptSteps::of(script);
+            let (end, text) = play_out(&context, cast.maker, pass, steps, cast.clock, Lines::Kept);
             let first = Some(end);
             let (first, mut ended, mut texts) = play_crew(
                 rt, cast, shared, passes, ended, texts, first, before,

@@ -1,5 +1,6 @@
 -- Scripts, call by call.
-use Rattle.std.proofs.Common.{◌≡◌, ℕ, ◌-◌, ◌<◌, List, [], ◌∷◌, ◌++◌, length, take, refl, sym, ap, subst, ◌∙◌, append_assoc, length-append, arith}
+use Rattle.std.proofs.Common.{◌≡◌, ℕ, suc, ◌-◌, ◌<◌, Bool, List, [], ◌∷◌, ◌++◌, length, take, refl, sym, ap, subst, ◌∙◌, append_assoc, length-append, arith}
+use Rattle.std.specs.Prelude.{Contains}
 use Rattle.std.proofs.Math.Seq.{take-append_seam}
 use Rattle.std.proofs.lemmas.List.{append-nil}
 use Rattle.apcu_model.specs.declared.conf.Conf.{Conf}
@@ -9,9 +10,13 @@ use Rattle.script_read.specs.declared.script.Step.{Step}
 use Rattle.script_read.specs.Budgets.{events_in}
 use Rattle.script_read.specs.Calls.{event_bound}
 use Rattle.script_read.specs.Grammar.{ends_line}
+use Rattle.script_read.specs.Patterns.{call_pattern, MayBeRefused, HasRefusable}
 use Rattle.script_read.specs.Play.{next_of}
+use Rattle.script_read.proofs.RefusablePatterns.{step_refusable}
 use Rattle.reply_text.specs.Lines.{call_text, before, call_lines, script_lines}
-use Rattle.worker_play.specs.Goes.{Reaches, Tells, nothing}
+use Rattle.worker_play.specs.declared.script.Lines.{Lines}
+use Rattle.worker_play.specs.declared.script.Lines.TheVariants.{Kept, Dropped}
+use Rattle.worker_play.specs.Goes.{Reaches, Tells, left_of}
 use Rattle.worker_play.specs.Turns.{Turn, Over, turns_at, turns_of}
 use Rattle.worker_play.proofs.PassProgress.{Midway, goes_on, more_asked, ends}
 use Rattle.worker_play.proofs.Turns.{call_few, events_step, in_turn_first, over_goes_on, turns_step}
@@ -37,16 +42,21 @@ as_step conf workers o q step steps r = record {
   goes = r.goes;
 }
 
+-- what is left of the lines so far and of one more, before those behind them
+lines_left : (lines : Lines) (out line rest new : List ℕ) → new ≡ left_of lines (out ++ line) → left_of lines (out ++ (line ++ rest)) ≡ left_of lines (new ++ rest)
+lines_left Kept out line rest new is = sym (append_assoc out line rest) ∙ ap (λ (l : List ℕ). l ++ rest) (sym is)
+lines_left Dropped out line rest new is = refl
+
 -- one step more
-pub step_goes_on : (conf : Conf) (workers : ℕ) (p o q : PassView) (turns : List Reply → Turn) (step : Step) (steps : List Step) (told : List Reply → List ℕ) (out new : List ℕ)
-    → Midway conf workers p o turns (turns_of conf (step ∷ steps)) told (λ later. out ++ script_lines conf (step ∷ steps) later)
-    → Tells conf workers o q (turns_at step.t (next_of conf step.call)) (λ replies. out ++ (call_text step.call replies ++ ends_line)) new
-    → Midway conf workers p q turns (turns_of conf steps) told (λ later. new ++ script_lines conf steps later)
-step_goes_on conf workers p o q turns step steps told out new m t =
-    goes_on conf workers p o q turns (turns_of conf (step ∷ steps)) (turns_of conf steps) told (λ later. out ++ script_lines conf (step ∷ steps) later) (λ later. new ++ script_lines conf steps later) m
+pub step_goes_on : (conf : Conf) (workers : ℕ) (p o q : PassView) (turns : List Reply → Turn) (step : Step) (steps : List Step) (lines : Lines) (told : List Reply → List ℕ) (out written new : List ℕ)
+    → Midway conf workers p o turns (turns_of conf (step ∷ steps)) told (λ later. left_of lines (out ++ script_lines conf (step ∷ steps) later))
+    → Tells conf workers o q (turns_at step.t (next_of conf step.call)) (λ replies. out ++ (call_text step.call replies ++ ends_line)) written → new ≡ left_of lines written
+    → Midway conf workers p q turns (turns_of conf steps) told (λ later. left_of lines (new ++ script_lines conf steps later))
+step_goes_on conf workers p o q turns step steps lines told out written new m t is =
+    goes_on conf workers p o q turns (turns_of conf (step ∷ steps)) (turns_of conf steps) told (λ later. left_of lines (out ++ script_lines conf (step ∷ steps) later)) (λ later. left_of lines (new ++ script_lines conf steps later)) m
     (as_step conf workers o q step steps t.asked) (turns_step conf step steps t.asked.replies t.over)
-    (λ later. ap (λ (l : List ℕ). out ++ l) (lines_step conf step steps t.asked.replies later t.over)
-    ∙ (sym (append_assoc out (call_text step.call t.asked.replies ++ ends_line) (script_lines conf steps later)) ∙ ap (λ (l : List ℕ). l ++ script_lines conf steps later) (sym t.is)))
+    (λ later. ap (λ (l : List ℕ). left_of lines (out ++ l)) (lines_step conf step steps t.asked.replies later t.over)
+    ∙ lines_left lines out (call_text step.call t.asked.replies ++ ends_line) (script_lines conf steps later) new (is ∙ ap (left_of lines) t.is))
 
 -- the step that was broken off
 pub step_breaks : {A : Type 0} (conf : Conf) (workers : ℕ) (p o q : PassView) (turns : List Reply → Turn) (step : Step) (steps : List Step) (told to_tell : List Reply → A)
@@ -63,17 +73,40 @@ pub left_after : (conf : Conf) (workers : ℕ) (o q : PassView) (t : ℕ) (step 
 left_after conf workers o q t step steps r enough =
     omega (arith, r.goes.left, enough, call_few conf t step.call r.made r.replies r.in_turn, events_step conf.slots step steps)
 
--- all steps were met
-pub steps_end : (conf : Conf) (workers : ℕ) (p q : PassView) (turns : List Reply → Turn) (told : List Reply → List ℕ) (out : List ℕ) → Midway conf workers p q turns (turns_of conf []) told (λ later. out ++ script_lines conf [] later) → Tells conf workers p q turns told out
-steps_end conf workers p q turns told out m =
-    subst (λ (l : List ℕ). Tells conf workers p q turns told l) (append-nil out) (ends conf workers p q turns (turns_of conf []) told (λ later. out ++ script_lines conf [] later) m refl)
+-- where nothing more is left than there is, nothing less is
+left_again : (lines : Lines) (text : List ℕ) → left_of lines (left_of lines text) ≡ left_of lines text
+left_again Kept text = refl
+left_again Dropped text = refl
 
--- one step more, of which nothing is told
-pub step_made : (conf : Conf) (workers : ℕ) (p o q : PassView) (turns : List Reply → Turn) (step : Step) (steps : List Step) (told : List Reply → List ℕ) (new : List ℕ)
-    → Midway conf workers p o turns (turns_of conf (step ∷ steps)) nothing nothing → Tells conf workers o q (turns_at step.t (next_of conf step.call)) told new → Midway conf workers p q turns (turns_of conf steps) nothing nothing
-step_made conf workers p o q turns step steps told new m t =
-    goes_on conf workers p o q turns (turns_of conf (step ∷ steps)) (turns_of conf steps) nothing nothing nothing m (as_step conf workers o q step steps t.asked) (turns_step conf step steps t.asked.replies t.over) (λ later. refl)
+pub left_whole : (lines : Lines) (written new : List ℕ) → new ≡ left_of lines written → left_of lines new ≡ new
+left_whole lines written new is = ap (left_of lines) is ∙ (left_again lines written ∙ sym is)
+
+pub none_left : (lines : Lines) → left_of lines [] ≡ []
+none_left Kept = refl
+none_left Dropped = refl
 
 -- all steps were met
-pub steps_made : (conf : Conf) (workers : ℕ) (p q : PassView) (turns : List Reply → Turn) → Midway conf workers p q turns (turns_of conf []) nothing nothing → Tells conf workers p q turns nothing tt
-steps_made conf workers p q turns m = ends conf workers p q turns (turns_of conf []) nothing nothing m refl
+pub steps_end : (conf : Conf) (workers : ℕ) (p q : PassView) (turns : List Reply → Turn) (lines : Lines) (told : List Reply → List ℕ) (out : List ℕ) → Midway conf workers p q turns (turns_of conf []) told (λ later. left_of lines (out ++ script_lines conf [] later))
+    → left_of lines out ≡ out → Tells conf workers p q turns told out
+steps_end conf workers p q turns lines told out m whole =
+    subst (λ (l : List ℕ). Tells conf workers p q turns told l) (ap (left_of lines) (append-nil out) ∙ whole) (ends conf workers p q turns (turns_of conf []) told (λ later. left_of lines (out ++ script_lines conf [] later)) m refl)
+
+-- ---- steps among others
+
+abbrev pub AreAmong : List Step → List Step → Type 0
+AreAmong some all = (step : Step) → Contains some step → Contains all step
+
+pub among_behind : (step : Step) (rest all : List Step) → AreAmong (step ∷ rest) all → AreAmong rest all
+among_behind step rest all h = λ s c. h s (suc c.0, omega (arith, c.1), c.2)
+
+-- the first of them has a pattern that may be refused
+pub first_refusable : (may_refuse : Bool → List ℕ → Type 0) (step : Step) (rest all : List Step) → AreAmong (step ∷ rest) all → MayBeRefused may_refuse (call_pattern step.call) → HasRefusable may_refuse all
+first_refusable may_refuse step rest all among refused =
+    let r = step_refusable may_refuse (step ∷ rest) 0 step refl refused in
+    record {
+      step = r.step;
+      pattern = r.pattern;
+      there = among r.step r.there;
+      has = r.has;
+      refusable = r.refusable;
+    }

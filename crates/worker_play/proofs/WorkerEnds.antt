@@ -1,6 +1,6 @@
 -- Workers that end.
 use Rattle.std.proofs.Common.{◌≡◌, ℕ, ◌+◌, ◌<◌, ◌≤◌, List, [], ◌∷◌, ◌++◌, map, Some, refl, sym, ap, subst, ◌∙◌, arith}
-use Rattle.std.specs.Prelude.{Result, Ok, Err, IfOk, OnOk, IfSome}
+use Rattle.std.specs.Prelude.{Result, Ok, Err, IfOk, IfSome}
 use Rattle.std.specs.Result.{result_ok}
 use Rattle.apcu_model.specs.declared.conf.Clock.{Clock}
 use Rattle.apcu_model.specs.declared.conf.Conf.{Conf}
@@ -15,8 +15,9 @@ use Rattle.script_read.specs.Play.{Wish, wanted}
 use Rattle.reply_text.specs.Lines.{script_lines}
 use Rattle.play_laws.specs.Own.{own_replies, wish_in, AreInTurn, HasPlayed}
 use Rattle.shared_cache.specs.Follows.{Follows}
-use Rattle.worker_play.specs.Goes.{wish, KnowsOwnEvents, GoesOn, Reaches, Tells, nothing}
-use Rattle.worker_play.specs.Ends.{PlaysOut, AskedInTurn, HasMade, PlaysAll}
+use Rattle.worker_play.specs.declared.script.Lines.{Lines}
+use Rattle.worker_play.specs.Goes.{wish, KnowsOwnEvents, GoesOn, Reaches, Tells, left_of}
+use Rattle.worker_play.specs.Ends.{PlaysOut, AskedInTurn, HasMade}
 use Rattle.worker_play.specs.Turns.{turns_of}
 use Rattle.worker_play.proofs.PassProgress.{OwnLaws, more, one}
 use Rattle.worker_play.proofs.Turns.{script_few, in_turn_one, in_turn_more, in_turn_wanted, ends_wanted, lines_more}
@@ -50,8 +51,8 @@ ends_after laws conf workers p o q ws rs none unanswered g f =
     }
 
 -- the worker that has asked all that its calls want
-plays_out : (conf : Conf) (workers : ℕ) (p o q : PassView) (script : List Step) (text : List ℕ) → (t : Tells conf workers p o (turns_of conf script) (script_lines conf script) text) → EndsAfter conf q t.asked.made t.asked.replies → PlaysOut conf script q text
-plays_out conf workers p o q script text t e =
+plays_out : (conf : Conf) (workers : ℕ) (p o q : PassView) (lines : Lines) (script : List Step) (text : List ℕ) → (t : Tells conf workers p o (turns_of conf script) (λ replies. left_of lines (script_lines conf script replies)) text) → EndsAfter conf q t.asked.made t.asked.replies → PlaysOut conf lines script q text
+plays_out conf workers p o q lines script text t e =
     let end : wanted conf [] [] ≡ Some (wish 0 requests.Retire) = refl in
     let all : HasPlayed conf script (t.asked.made ++ wish 0 requests.Retire ∷ []) (t.asked.replies ++ replies.Ended ∷ []) = record {
       in_turn = in_turn_more (wanted conf script) (wanted conf []) t.asked.made (wish 0 requests.Retire ∷ []) t.asked.replies (replies.Ended ∷ [])
@@ -62,14 +63,14 @@ plays_out conf workers p o q script text t e =
     record {
       played = subst (λ (rs : List Reply). HasPlayed conf script (map wish_in q.known.own) rs) (sym e.answered)
           (subst (λ (ws : List Wish). HasPlayed conf script ws (t.asked.replies ++ replies.Ended ∷ [])) (sym e.asked) all);
-      lines = t.is ∙ (sym (lines_more conf script t.asked.replies [] (replies.Ended ∷ []) t.over) ∙ ap (script_lines conf script) (sym e.answered));
+      is = t.is ∙ ap (left_of lines) (sym (lines_more conf script t.asked.replies [] (replies.Ended ∷ []) t.over) ∙ ap (script_lines conf script) (sym e.answered));
     }
 
 -- where the play came to its end
-pub plays_out_if : {E : Type 0} → OwnLaws → (conf : Conf) (workers : ℕ) (p o q : PassView) (script : List Step) (r : Result (List ℕ) E) → p.known.own ≡ [] → own_replies conf p.known.worker p.known.seen ≡ []
-    → IfOk r (λ out. Tells conf workers p o (turns_of conf script) (script_lines conf script) out) → Follows conf workers o q 0 requests.Retire replies.Ended → IfSome (result_ok r) (λ lines. PlaysOut conf script q lines)
-plays_out_if laws conf workers p o q script (Ok text) none unanswered t f = plays_out conf workers p o q script text t (ends_after laws conf workers p o q t.asked.made t.asked.replies none unanswered t.asked.goes f)
-plays_out_if laws conf workers p o q script (Err e) none unanswered t f = tt
+pub plays_out_if : {E : Type 0} → OwnLaws → (conf : Conf) (workers : ℕ) (p o q : PassView) (lines : Lines) (script : List Step) (r : Result (List ℕ) E) → p.known.own ≡ [] → own_replies conf p.known.worker p.known.seen ≡ []
+    → IfOk r (λ out. Tells conf workers p o (turns_of conf script) (λ replies. left_of lines (script_lines conf script replies)) out) → Follows conf workers o q 0 requests.Retire replies.Ended → IfSome (result_ok r) (λ text. PlaysOut conf lines script q text)
+plays_out_if laws conf workers p o q lines script (Ok text) none unanswered t f = plays_out conf workers p o q lines script text t (ends_after laws conf workers p o q t.asked.made t.asked.replies none unanswered t.asked.goes f)
+plays_out_if laws conf workers p o q lines script (Err e) none unanswered t f = tt
 
 -- a worker that ends wherever it was
 pub has_asked : OwnLaws → (conf : Conf) (workers : ℕ) (p o q : PassView) (script : List Step) → p.known.own ≡ [] → own_replies conf p.known.worker p.known.seen ≡ []
@@ -78,11 +79,11 @@ has_asked laws conf workers p o q script none unanswered r f =
     let e = ends_after laws conf workers p o q r.made r.replies none unanswered r.goes f in
     record { made = r.made; replies = r.replies; in_turn = r.in_turn; asked = e.asked; answered = e.answered }
 
--- ---- without lines
+-- ---- before its end
 
 -- the worker that has made all its calls, and nothing before
-has_made : (conf : Conf) (workers : ℕ) (p q : PassView) (script : List Step) → p.known.own ≡ [] → own_replies conf p.known.worker p.known.seen ≡ [] → Tells conf workers p q (turns_of conf script) nothing tt → HasMade conf script q
-has_made conf workers p q script none unanswered t =
+pub has_made : {A : Type 0} (conf : Conf) (workers : ℕ) (p q : PassView) (script : List Step) (told : List Reply → A) (a : A) → p.known.own ≡ [] → own_replies conf p.known.worker p.known.seen ≡ [] → Tells conf workers p q (turns_of conf script) told a → HasMade conf script q
+has_made conf workers p q script told a none unanswered t =
     let g = t.asked.goes in
     let asked : t.asked.made ≡ map wish_in q.known.own = sym (g.own ∙ ap (λ (l : List _). map wish_in l ++ t.asked.made) none) in
     let answered : t.asked.replies ≡ own_replies conf q.known.worker q.known.seen = sym (g.replies_are ∙ ap (λ (l : List Reply). l ++ t.asked.replies) unanswered) in
@@ -91,27 +92,3 @@ has_made conf workers p q script none unanswered t =
           (subst (λ (ws : List Wish). AreInTurn (wanted conf script) ws t.asked.replies) asked (in_turn_wanted conf script t.asked.made t.asked.replies t.asked.in_turn));
       done = λ later. ap (λ (l : List Reply). wanted conf script (l ++ later)) (sym answered) ∙ ends_wanted conf script t.asked.replies [] later t.over;
     }
-
-pub has_made_if : {X E : Type 0} (conf : Conf) (workers : ℕ) (p q : PassView) (script : List Step) (r : Result X E) → p.known.own ≡ [] → own_replies conf p.known.worker p.known.seen ≡ []
-    → OnOk r (Tells conf workers p q (turns_of conf script) nothing tt) → OnOk r (HasMade conf script q)
-has_made_if conf workers p q script (Ok x) none unanswered t = has_made conf workers p q script none unanswered t
-has_made_if conf workers p q script (Err e) none unanswered t = tt
-
--- and then its end
-plays_all : OwnLaws → (conf : Conf) (workers : ℕ) (o q : PassView) (script : List Step) → KnowsOwnEvents o → HasMade conf script o → Follows conf workers o q 0 requests.Retire replies.Ended → PlaysAll conf script q
-plays_all laws conf workers o q script whole made f =
-    let g = one laws conf workers o q 0 requests.Retire requests.Retire replies.Ended f whole refl in
-    let ws = map wish_in o.known.own in
-    let rs = own_replies conf o.known.worker o.known.seen in
-    let end : wanted conf [] [] ≡ Some (wish 0 requests.Retire) = refl in
-    let all : HasPlayed conf script (ws ++ wish 0 requests.Retire ∷ []) (rs ++ replies.Ended ∷ []) = record {
-      in_turn = in_turn_more (wanted conf script) (wanted conf []) ws (wish 0 requests.Retire ∷ []) rs (replies.Ended ∷ []) made.in_turn (in_turn_one (wanted conf []) (wish 0 requests.Retire) replies.Ended end) made.done;
-      done = made.done (replies.Ended ∷ []);
-    } in
-    subst (λ (l : List Reply). HasPlayed conf script (map wish_in q.known.own) l) (sym g.replies_are)
-    (subst (λ (l : List Wish). HasPlayed conf script l (rs ++ replies.Ended ∷ [])) (sym g.own) all)
-
-pub plays_all_if : {X E : Type 0} → OwnLaws → (conf : Conf) (workers : ℕ) (o q : PassView) (script : List Step) (r : Result X E) → KnowsOwnEvents o → OnOk r (HasMade conf script o) → Follows conf workers o q 0 requests.Retire replies.Ended
-    → OnOk r (PlaysAll conf script q)
-plays_all_if laws conf workers o q script (Ok x) whole made f = plays_all laws conf workers o q script whole made f
-plays_all_if laws conf workers o q script (Err e) whole made f = tt

@@ -10,15 +10,23 @@ use Rattle.script_read.specs.declared.script.Step.{Step}
 use Rattle.script_read.specs.Play.{Wish, wanted}
 use Rattle.play_laws.specs.Own.{own_replies, wish_in, AreInTurn, HasPlayed}
 use Rattle.reply_text.specs.Lines.{script_lines}
-use Rattle.worker_play.specs.Goes.{wish, KnowsOwnEvents}
+use Rattle.worker_play.specs.declared.script.Lines.{Lines}
+use Rattle.worker_play.specs.Goes.{wish, KnowsOwnEvents, left_of}
 use Rattle.worker_play.specs.Turns.{turns_of, wanted_in}
 
--- The worker asked all that its script wants, its end included. The text has a line for each call,
--- made of the worker's own replies in what it has seen.
-pub record PlaysOut (conf : Conf) (script : List Step) (b : PassView) (text : List ℕ) : Type 0 where
-  pub played : HasPlayed conf script (map wish_in b.known.own)
-      (own_replies conf b.known.worker b.known.seen)
-  pub lines : text ≡ script_lines conf script (own_replies conf b.known.worker b.known.seen)
+-- It asked all that its script wants, its end included.
+abbrev pub PlaysAll : Conf → List Step → PassView → Type 0
+PlaysAll conf script b =
+    HasPlayed conf script (map wish_in b.known.own)
+    (own_replies conf b.known.worker b.known.seen)
+
+-- So it did, and the text is what is left of a line for each call, made of the worker's own replies
+-- in what it has seen.
+pub record PlaysOut (conf : Conf) (lines : Lines) (script : List Step) (b : PassView)
+    (text : List ℕ) : Type 0 where
+  pub played : PlaysAll conf script b
+  pub is : text
+      ≡ left_of lines (script_lines conf script (own_replies conf b.known.worker b.known.seen))
 
 -- It asked some first of what the calls of its script want, in turn, and then its end.
 pub record AskedInTurn (conf : Conf) (script : List Step) (b : PassView) : Type 0 where
@@ -28,16 +36,20 @@ pub record AskedInTurn (conf : Conf) (script : List Step) (b : PassView) : Type 
   pub asked : map wish_in b.known.own ≡ made ++ wish 0 requests.Retire ∷ []
   pub answered : own_replies conf b.known.worker b.known.seen ≡ replies ++ Ended ∷ []
 
--- The worker w of the table has ended. Where there is a text, it has played all of its script.
-pub record Ends (t : TableId) (conf : Conf) (w : ℕ) (script : List Step) (b : PassView)
-    (text : Option (List ℕ)) : Type 0 where
+-- The worker w of the table has ended.
+pub record HasEnded (t : TableId) (w : ℕ) (b : PassView) : Type 0 where
   pub table : b.table ≡ t
   pub worker : b.known.worker ≡ w
   pub all_own : KnowsOwnEvents b
-  pub begun : AskedInTurn conf script b
-  pub plays : IfSome text (λ lines. PlaysOut conf script b lines)
 
--- ---- without lines
+-- It has, and where there is a text, it has played all of its script.
+pub record Ends (t : TableId) (conf : Conf) (w : ℕ) (lines : Lines) (script : List Step)
+    (b : PassView) (text : Option (List ℕ)) : Type 0 where
+  pub ended : HasEnded t w b
+  pub begun : AskedInTurn conf script b
+  pub plays : IfSome text (λ it. PlaysOut conf lines script b it)
+
+-- ---- before its end
 
 -- The worker asked in turn what its script wants. After its replies the script wants what one
 -- without calls does: its end, and then nothing.
@@ -47,15 +59,3 @@ pub record HasMade (conf : Conf) (script : List Step) (b : PassView) : Type 0 wh
   pub done : (later : List Reply)
       → wanted conf script (own_replies conf b.known.worker b.known.seen ++ later)
       ≡ wanted conf [] later
-
--- It asked all that its script wants, its end included.
-abbrev pub PlaysAll : Conf → List Step → PassView → Type 0
-PlaysAll conf script b =
-    HasPlayed conf script (map wish_in b.known.own)
-    (own_replies conf b.known.worker b.known.seen)
-
--- The worker w of the table has ended.
-pub record HasEnded (t : TableId) (w : ℕ) (b : PassView) : Type 0 where
-  pub table : b.table ≡ t
-  pub worker : b.known.worker ≡ w
-  pub all_own : KnowsOwnEvents b

@@ -9,6 +9,8 @@ use Rattle.pin_table.specs.Values.{PassView}
 use Rattle.pin_table.specs.Events.{events_of}
 use Rattle.script_read.specs.Play.{Wish}
 use Rattle.play_laws.specs.Own.{own_replies, wish_in, AreInTurn}
+use Rattle.worker_play.specs.declared.script.Lines.{Lines}
+use Rattle.worker_play.specs.declared.script.Lines.TheVariants.{Kept, Dropped}
 use Rattle.worker_play.specs.Turns.{Turn, Over, wanted_in}
 
 -- a request at a moment
@@ -51,6 +53,7 @@ pub record Tells {A : Type 0} (conf : Conf) (workers : ℕ) (p q : PassView)
   pub over : turns asked.replies ≡ Over []
   pub is : a ≡ told asked.replies
 
--- where nothing is told
-abbrev pub nothing : List Reply → Unit {0}
-nothing replies = tt
+-- what is left of some lines
+abbrev pub left_of : Lines → List ℕ → List ℕ
+left_of Kept lines = lines
+left_of Dropped lines = []

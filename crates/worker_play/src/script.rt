@@ -9,7 +9,8 @@ ghost use Rattle.script_read.specs.Grammar.{ends_line};
 ghost use Rattle.script_read.specs.Patterns.{call_pattern, MayBeRefused, HasRefusable};
 ghost use Rattle.script_read.specs.Play.{next_of};
 ghost use Rattle.reply_text.specs.Lines.{call_text, script_lines};
-ghost use Rattle.worker_play.specs.Goes.{KnowsOwnEvents, Reaches, Tells};
+ghost use Rattle.worker_play.specs.Ends.{HasMade};
+ghost use Rattle.worker_play.specs.Goes.{KnowsOwnEvents, Reaches, Tells, left_of};
 ghost use Rattle.worker_play.specs.Turns.{turns_at, turns_of};
 ghost use Rattle.worker_play.specs.declared.script.PlayFault.TheVariants.{Memory, Pattern};
 
@@ -20,7 +21,8 @@ use apcu_model::{Clock, Conf};
 use io_edges::{Gate, Point};
 use notation::ByteOut;
 use pin_table::{Pass, TableName};
-use script_read::{Call, Script};
+use play_laws::one_event_own;
+use script_read::{AsStep, Call, Script, ScriptSteps, Steps};
 use shared_cache::Shared;
 use std::alloc::{AllocError, Global};
 use std::sync::Wait;
@@ -40,6 +42,15 @@ impl From<AllocError> for PlayFault {
     fn from(_e: AllocError) -> PlayFault {
         PlayFault::Memory
     }
+}
+
+/// What becomes of the lines of a worker's calls.
+#[derive(Clone, Copy, Debug, PartialEq, Eq)]
+pub enum Lines {
+    /// They are kept, one behind the other.
+    Kept,
+    /// Each is dropped before the next call.
+    Dropped,
 }
 
 // A call at its moment, and its line. The gate is reached before the call, and after it where it
@@ -90,70 +101,64 @@ fn end_line(out: &mut ByteOut) -> Result<(), PlayFault>
     Ok(())
 }
 
-// All steps of a script, each at its moment under the clock, with their lines.
-fn play_steps<N: TableName, M: Maker, G: Gate, R: Wait>(
-    context: &Context<N, G, R>,
-    maker: &M,
-    pass: Pass,
-    script: &Script,
-    clock: Clock,
-    out: &mut ByteOut,
-) -> (Pass, Result<(), PlayFault>)
-    requires table { pass.table ≡ N.table }
-    requires whole { KnowsOwnEvents pass }
-    requires slots { context.now.slots ≡ N.conf.slots }
-    requires left { events_in N.conf.slots script.now < pass.known.left }
-    ensures reaches { Reaches N.conf (length N.budgets) pass result.0
-        (turns_of N.conf (timed clock script.now)) }
-    ensures lines { OnOk result.1 (Tells N.conf (length N.budgets) pass result.0
-        (turns_of N.conf (timed clock script.now))
-        (λ replies. out.old ++ script_lines N.conf (timed clock script.now) replies) out.new) }
-    ensures pattern { IfErr result.1 (λ fault. fault ≡ Pattern
-        → HasRefusable (M.may_refuse maker.now) script.now) }
+// What is left of a line.
+fn leave(out: &mut ByteOut, lines: Lines)
+    ensures { out.new ≡ left_of lines out.old }
 {
-    let mut held = pass;
-    for index in 0..script.len() {
-        let step = script.at(index);
-        let t = step.moment(clock);
-        let when = When { index, t };
-        let (next, played) = play_step(context, maker, when, held, &step.call, out);
-        held = next;
-        if let Err(fault) = played {
-            return (held, Err(fault));
-        }
+    match lines {
+        Lines::Kept => {}
+        Lines::Dropped => out.cut(0),
     }
-    (held, Ok(()))
 }
 
-// Plays a worker's script as `play_script` does.
-pub(crate) fn play_lines<N: TableName, M: Maker + Sync, G: Gate, R: Wait>(
+/// Plays these steps as `play_script` does those of a script, and gives what is left of the lines.
+/// Where they are dropped, what it takes of memory does not grow with the replies. The gate is told
+/// of the same points.
+///
+/// At `Ok` its worker has asked in turn what the steps want, and nothing is left but its end.
+pub fn play_lines<N: TableName, M: Maker + Sync, G: Gate, R: Wait, S: Steps + Drop>(
     context: &Context<N, G, R>,
     maker: &M,
     pass: Pass,
-    script: &Script,
+    mut steps: S,
     clock: Clock,
+    lines: Lines,
 ) -> (Pass, Result<ByteOut, PlayFault>)
     requires slots { context.now.slots ≡ N.conf.slots }
     requires table { pass.table ≡ N.table }
     requires no_event { pass.known.own ≡ [] }
     requires whole { KnowsOwnEvents pass }
-    requires left { events_in N.conf.slots script.now < pass.known.left }
+    requires left { events_in N.conf.slots (S.to_come steps) < pass.known.left }
     ensures reaches { Reaches N.conf (length N.budgets) pass result.0
-        (turns_of N.conf (timed clock script.now)) }
+        (turns_of N.conf (timed clock (S.to_come steps))) }
     ensures lines { IfOk result.1 (λ out. Tells N.conf (length N.budgets) pass result.0
-        (turns_of N.conf (timed clock script.now))
-        (script_lines N.conf (timed clock script.now)) out) }
+        (turns_of N.conf (timed clock (S.to_come steps)))
+        (λ replies.
+        left_of lines (script_lines N.conf (timed clock (S.to_come steps)) replies)) out) }
+    ensures made { OnOk result.1 (HasMade N.conf (timed clock (S.to_come steps)) result.0) }
     ensures left { pass.known.left
-        ≤ result.0.known.left + events_in N.conf.slots script.now }
+        ≤ result.0.known.left + events_in N.conf.slots (S.to_come steps) }
     ensures pattern { IfErr result.1 (λ fault. fault ≡ Pattern
-        → HasRefusable (M.may_refuse maker.now) script.now) }
+        → HasRefusable (M.may_refuse maker.now) (S.to_come steps)) }
 {
+    one_event_own();
     let mut out = ByteOut::new(context.alloc);
-    let (pass, played) = play_steps(context, maker, pass, script, clock, &mut out);
-    match played {
-        Ok(()) => (pass, Ok(out)),
-        Err(fault) => (pass, Err(fault)),
+    let mut held = pass;
+    for index in 0..steps.len() {
+        let Ok(taken) = steps.next(context.alloc) else {
+            return (held, Err(PlayFault::Memory));
+        };
+        let step = taken.as_step();
+        let t = step.moment(clock);
+        let when = When { index, t };
+        let (next, played) = play_step(context, maker, when, held, &step.call, &mut out);
+        held = next;
+        if let Err(fault) = played {
+            return (held, Err(fault));
+        }
+        leave(&mut out, lines);
     }
+    (held, Ok(out))
 }
 
 /// Plays a worker's script on the shared cache, and gives what its calls print: a line for each,
@@ -205,5 +210,6 @@ pub fn play_script<N: TableName, M: Maker + Sync, G: Gate, R: Wait>(
         gate,
         slots: conf.slots,
     };
-    play_lines(&context, maker, pass, script, clock)
+    let steps = ScriptSteps::of(script);
+    play_lines(&context, maker, pass, steps, clock, Lines::Kept)
 }

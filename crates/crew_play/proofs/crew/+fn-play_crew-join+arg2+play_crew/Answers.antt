@@ -5,6 +5,7 @@ use Rattle.pin_table.specs.Values.{PassView}
 use Rattle.pin_table.specs.Events.{events_of}
 use Rattle.script_read.specs.Clock.{timed, all_timed}
 use Rattle.worker_play.specs.Ends.{Ends}
+use Rattle.worker_play.specs.declared.script.Lines.TheVariants.{Kept}
 use Rattle.worker_play.specs.declared.script.PlayFault.{PlayFault}
 use Rattle.crew_play.specs.Crew.{AllEnd, EndsBefore}
 use Rattle.crew_play.proofs.Crews.{all_none, all_with, refusable_with}
@@ -34,8 +35,8 @@ returns-clause-all g t c =
     let n : ℕ = c.args.count - 1 in
     let count : suc n ≡ c.args.count = omega (arith, c.if-count-eq0.false) in
     let its : c.behind-pass.result.0.known.worker ≡ n = c.behind-pass.ensures.worker ∙ c.last_worker-pass.ensures.worker in
-    let one : Ends table conf n (timed c.args.cast.now.clock script) last.0 (result_ok last.1) =
-    subst (λ v. Ends table conf v (timed c.args.cast.now.clock script) last.0 (result_ok last.1)) its c.join-front.ensures.second.0 in
+    let one : Ends table conf n Kept (timed c.args.cast.now.clock script) last.0 (result_ok last.1) =
+    subst (λ v. Ends table conf v Kept (timed c.args.cast.now.clock script) last.0 (result_ok last.1)) its c.join-front.ensures.second.0 in
     all_with table conf c.args.cast.now.clock c.args.cast.now.scripts.now n c.args.count front.1.ended c.push.new.self.ended front.2.items c.push_reserved.new.self.items script last.0 last.1
     count c.last_worker-pass.ensures.script c.join-front.ensures.first.0 one c.push.ensures.ended c.push_reserved.ensures.items
 

@@ -5,6 +5,7 @@ use Rattle.apcu_model.specs.declared.conf.Conf.{Conf}
 use Rattle.pin_table.specs.Values.{PassView}
 use Rattle.script_read.specs.declared.script.Step.{Step}
 use Rattle.script_read.specs.Clock.{all_timed}
+use Rattle.script_read.specs.GeneratedScripts.{generated}
 use Rattle.shared_cache.specs.ClosedCaches.{IsClosed}
 use Rattle.worker_play.specs.Looks.{Observes}
 use Rattle.crew_play.specs.GeneratedRuns.{IsRun, IsWatched, HaveMade}
@@ -18,26 +19,29 @@ pub close-requires-clause-table : goal.close-requires-clause-table
 close-requires-clause-table g c =
     let table = g.N.TableName.table in
     let conf = g.N.TableName.conf in
-    let scripts = all_timed Line c.args.scripts.now in
+    let draws = c.args.draws.now in
+    let scripts = all_timed Line (generated draws.seed draws.workers draws.calls) in
     rw c.push.ensures.ended
-    (of_table table conf scripts c.len-count.result (length g.N.TableName.budgets) c.play_drawn-first.result.0 c.observe-end.result.0 c.play_drawn-first.result.1.ended c.play_drawn-first.result.2 c.observe-end.result.1 c.play_drawn-first.ensures.made c.observe-end.ensures)
+    (of_table table conf scripts c.args.draws.now.workers (length g.N.TableName.budgets) c.play_drawn-first.result.0 c.observe-end.result.0 c.play_drawn-first.result.1.ended c.play_drawn-first.result.2 c.observe-end.result.1 c.play_drawn-first.ensures.made c.observe-end.ensures)
 
 pub close-requires-clause-every : goal.close-requires-clause-every
 close-requires-clause-every g c =
     let table = g.N.TableName.table in
     let conf = g.N.TableName.conf in
-    let scripts = all_timed Line c.args.scripts.now in
-    let workers : length g.N.TableName.budgets ≡ c.len-count.result = ap length c.requires.budgets ∙ (c.requires.workers ∙ sym c.len-count.ensures) in
+    let draws = c.args.draws.now in
+    let scripts = all_timed Line (generated draws.seed draws.workers draws.calls) in
+    let workers : length g.N.TableName.budgets ≡ c.args.draws.now.workers = ap length c.requires.budgets ∙ c.requires.workers in
     rw (c.push.ensures.ended, workers)
-    (each_there table conf scripts c.len-count.result (length g.N.TableName.budgets) c.play_drawn-first.result.0 c.observe-end.result.0 c.play_drawn-first.result.1.ended c.play_drawn-first.result.2 c.observe-end.result.1 c.play_drawn-first.ensures.made c.observe-end.ensures)
+    (each_there table conf scripts c.args.draws.now.workers (length g.N.TableName.budgets) c.play_drawn-first.result.0 c.observe-end.result.0 c.play_drawn-first.result.1.ended c.play_drawn-first.result.2 c.observe-end.result.1 c.play_drawn-first.ensures.made c.observe-end.ensures)
 
 pub returns-clause-watched : goal.returns-clause-watched
-returns-clause-watched g c = λ seed calls run.
+returns-clause-watched g c =
     let table = g.N.TableName.table in
     let conf = g.N.TableName.conf in
-    let scripts : List (List Step) = c.args.scripts.now in
-    let shape : conf ≡ c.args.conf.now = c.requires.conf ∙ c.requires.shape in
-    let budgets : length g.N.TableName.budgets ≡ length scripts = ap length c.requires.budgets ∙ c.requires.workers in
+    let draws = c.args.draws.now in
+    let scripts : List (List Step) = generated draws.seed draws.workers draws.calls in
+    let shape : conf ≡ draws.conf.now = c.requires.conf ∙ c.requires.shape in
+    let budgets : length g.N.TableName.budgets ≡ draws.workers = ap length c.requires.budgets ∙ c.requires.workers in
     let first = c.play_drawn-first.result.0 in
     let others : List PassView = c.play_drawn-first.result.1.ended in
     let all = c.play_drawn-first.result.2 in
@@ -47,7 +51,7 @@ returns-clause-watched g c = λ seed calls run.
     let plays : PlayLaws = record { play = c.histories_are_plays.ensures.play; complete = c.histories_are_plays.ensures.complete } in
     let wishes : WishLaws = record { others = c.generated_wishes.ensures.others; observer = c.generated_wishes.ensures.observer } in
     let sums : SummaryLaws = record { summary = c.summaries_agree.ensures.summary; last = c.looks_come_last.ensures } in
-    let made = subst (λ (l : List (List Step)). HaveMade table conf l (length scripts) first others all) (all_lines scripts) (subst (λ n. HaveMade table conf (all_timed Line scripts) n first others all) c.len-count.ensures c.play_drawn-first.ensures.made) in
+    let made = subst (λ (l : List (List Step)). HaveMade table conf l draws.workers first others all) (all_lines scripts) c.play_drawn-first.ensures.made in
     let looks = subst (λ n. Observes conf n first end numbers) budgets c.observe-end.ensures in
     let closed = subst (λ n. IsClosed conf n (others ++ end ∷ []) c.close.result) budgets
     (subst (λ (l : List PassView). IsClosed conf (length g.N.TableName.budgets) l c.close.result) c.push.ensures.ended c.close.ensures) in
@@ -55,5 +59,5 @@ returns-clause-watched g c = λ seed calls run.
       | inl h ↦ h
       | inr h ↦ absurd (cc (h, c.if-not-all.false))
     ] in
-    subst (λ (f : Conf). IsWatched f seed (length scripts) calls (record { inserts = c.close.result.counts.inserts; counters = numbers })) shape
-    (watched law plays wishes sums table conf seed (length scripts) calls scripts first end others all numbers c.close.result (subst (λ (f : Conf). IsRun f seed (length scripts) calls scripts) (sym shape) run) made so looks closed)
+    subst (λ (f : Conf). IsWatched f draws.seed draws.workers draws.calls (record { inserts = c.close.result.counts.inserts; counters = numbers })) shape
+    (watched law plays wishes sums table conf draws.seed draws.workers draws.calls first end others all numbers c.close.result (subst (λ (f : Conf). IsRun f draws.workers draws.calls) (sym shape) c.requires.run) made so looks closed)

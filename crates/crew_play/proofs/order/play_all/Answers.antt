@@ -4,6 +4,7 @@ use Rattle.std.specs.Result.{result_ok}
 use Rattle.pin_table.specs.Values.{PassView}
 use Rattle.script_read.specs.Clock.{timed, all_timed}
 use Rattle.worker_play.specs.Ends.{Ends}
+use Rattle.worker_play.specs.declared.script.Lines.TheVariants.{Kept}
 use Rattle.crew_play.specs.Crew.{AllEnd, EndsBefore}
 use Rattle.crew_play.proofs.Crews.{all_with, refusable_with}
 use Rattle.crew_play.proofs.FirstEvents.{last_ends_first}
@@ -30,10 +31,10 @@ returns-in-Some-clause-all g c =
     let count : suc n ≡ length scripts = omega (arith, some, c.len-count.ensures) in
     let found : Some end ≡ Some c.play_out-end.result.0 = sym c.in-Some.is ∙ c.play_crew-first.ensures.same in
     let same : end ≡ c.play_out-end.result.0 = cc (found) in
-    let one : Ends table conf n (timed clock script) c.play_out-end.result.0 (result_ok text) =
-    subst (λ w. Ends table conf w (timed clock script) c.play_out-end.result.0 (result_ok text)) c.last_worker-pass.ensures.worker c.play_out-end.ensures.ends in
+    let one : Ends table conf n Kept (timed clock script) c.play_out-end.result.0 (result_ok text) =
+    subst (λ w. Ends table conf w Kept (timed clock script) c.play_out-end.result.0 (result_ok text)) c.last_worker-pass.ensures.worker c.play_out-end.ensures.ends in
     all_with table conf clock scripts n (length scripts) front.1.ended c.push.new.self.ended front.2.items c.push_reserved.new.self.items script end text
-    count c.last_worker-pass.ensures.script c.play_crew-first.ensures.all (subst (λ (b : PassView). Ends table conf n (timed clock script) b (result_ok text)) (sym same) one) c.push.ensures.ended c.push_reserved.ensures.items
+    count c.last_worker-pass.ensures.script c.play_crew-first.ensures.all (subst (λ (b : PassView). Ends table conf n Kept (timed clock script) b (result_ok text)) (sym same) one) c.push.ensures.ended c.push_reserved.ensures.items
 
 pub returns-in-Some-clause-pattern : goal.returns-in-Some-clause-pattern
 returns-in-Some-clause-pattern g c =
