@@ -3,10 +3,11 @@
 ghost use Rattle.std.specs.Prelude.{◌≡◌, ◌+◌, ◌<◌, List, option_map, IfOk, IfErr, IfSome};
 ghost use Rattle.apcu_model.specs.declared.request.Reply.{Reply};
 ghost use Rattle.apcu_model.specs.declared.limits.TheConstants.{MOST_WORKERS};
+ghost use Rattle.ghost_log.specs.declared.log.Log.{Log};
 ghost use Rattle.script_read.specs.Clock.{timed, all_timed};
 ghost use Rattle.script_read.specs.Patterns.{HasRefusable, SomeRefusable};
 ghost use Rattle.script_read.specs.Play.{marked};
-ghost use Rattle.run_verify.specs.Games.{IsGame};
+ghost use Rattle.run_verify.specs.Games.{Game, IsGame};
 ghost use Rattle.run_verify.specs.Marks.{IsMadeIfWanted};
 ghost use Rattle.run_verify.specs.Seats.{IsAnySeat, IsSeat};
 ghost use Rattle.run_verify.specs.declared.fault.VerifyFault.TheVariants.{Pattern};
@@ -74,7 +75,7 @@ pub(crate) fn play_mark<M: Maker>(
     requires game { IsGame conf.now (all_timed clock scripts.now) replay.old seats.old
         played.now.state }
     requires left { 0 < replay.old.left }
-    ensures marked { IfOk result (λ q. option_map (λ (p : GameSoFar). p.state.play) q
+    ensures marked { IfOk result (λ q. option_map (λ (p : Log Game). p.state.play) q
         ≡ marked conf.now (all_timed clock scripts.now) played.now.state.play mark) }
     ensures game { IfOk result (λ q. IfSome q (λ p.
         IsGame conf.now (all_timed clock scripts.now) replay.new seats.new p.state)) }
