@@ -3,12 +3,14 @@ use Rattle.std.proofs.Common.{◌≡◌, ℕ, suc, ◌-◌, ◌<◌, Bool, List,
 use Rattle.std.specs.Prelude.{Contains}
 use Rattle.std.proofs.Math.Seq.{take-append_seam}
 use Rattle.std.proofs.lemmas.List.{append-nil}
+use Rattle.apcu_model.specs.declared.conf.Clock.{Clock}
 use Rattle.apcu_model.specs.declared.conf.Conf.{Conf}
 use Rattle.apcu_model.specs.declared.request.Reply.{Reply}
 use Rattle.pin_table.specs.Values.{PassView}
 use Rattle.script_read.specs.declared.script.Step.{Step}
 use Rattle.script_read.specs.Budgets.{events_in}
 use Rattle.script_read.specs.Calls.{event_bound}
+use Rattle.script_read.specs.Clock.{moment_under, timed, timed_step}
 use Rattle.script_read.specs.Grammar.{ends_line}
 use Rattle.script_read.specs.Patterns.{call_pattern, MayBeRefused, HasRefusable}
 use Rattle.script_read.specs.Play.{next_of}
@@ -90,6 +92,33 @@ pub steps_end : (conf : Conf) (workers : ℕ) (p q : PassView) (turns : List Rep
     → left_of lines out ≡ out → Tells conf workers p q turns told out
 steps_end conf workers p q turns lines told out m whole =
     subst (λ (l : List ℕ). Tells conf workers p q turns told l) (ap (left_of lines) (append-nil out) ∙ whole) (ends conf workers p q turns (turns_of conf []) told (λ later. left_of lines (out ++ script_lines conf [] later)) m refl)
+
+-- ---- steps at their moments under a clock
+
+-- what is still to be asked and told on the way through a script
+abbrev pub OnTheWay : Conf → ℕ → PassView → PassView → Clock → List Step → List Step → Lines → List ℕ → Type 0
+OnTheWay conf workers p q clock all rest lines out =
+    Midway conf workers p q (turns_of conf (timed clock all)) (turns_of conf (timed clock rest)) (λ replies. left_of lines (script_lines conf (timed clock all) replies)) (λ later. left_of lines (out ++ script_lines conf (timed clock rest) later))
+
+pub one_met : (conf : Conf) (workers : ℕ) (p o q : PassView) (clock : Clock) (all some : List Step) (step : Step) (rest : List Step) (lines : Lines) (out written new : List ℕ) (t : ℕ) → some ≡ step ∷ rest → OnTheWay conf workers p o clock all some lines out → t ≡ moment_under clock step
+    → Tells conf workers o q (turns_at t (next_of conf step.call)) (λ replies. out ++ (call_text step.call replies ++ ends_line)) written → new ≡ left_of lines written → OnTheWay conf workers p q clock all rest lines new
+one_met conf workers p o q clock all some step rest lines out written new t split way at told is =
+    step_goes_on conf workers p o q (turns_of conf (timed clock all)) (timed_step clock step) (timed clock rest) lines (λ replies. left_of lines (script_lines conf (timed clock all) replies)) out written new
+    (subst (λ (l : List Step). OnTheWay conf workers p o clock all l lines out) split way)
+    (subst (λ (m : ℕ). Tells conf workers o q (turns_at m (next_of conf step.call)) (λ replies. out ++ (call_text step.call replies ++ ends_line)) written) at told) is
+
+pub broken_off : (conf : Conf) (workers : ℕ) (p o q : PassView) (clock : Clock) (all some : List Step) (step : Step) (rest : List Step) (lines : Lines) (out : List ℕ) (t : ℕ) → some ≡ step ∷ rest → OnTheWay conf workers p o clock all some lines out → t ≡ moment_under clock step
+    → Reaches conf workers o q (turns_at t (next_of conf step.call)) → Reaches conf workers p q (turns_of conf (timed clock all))
+broken_off conf workers p o q clock all some step rest lines out t split way at reached =
+    step_breaks conf workers p o q (turns_of conf (timed clock all)) (timed_step clock step) (timed clock rest) (λ replies. left_of lines (script_lines conf (timed clock all) replies)) (λ later. left_of lines (out ++ script_lines conf (timed clock (step ∷ rest)) later))
+    (subst (λ (l : List Step). OnTheWay conf workers p o clock all l lines out) split way)
+    (subst (λ (m : ℕ). Reaches conf workers o q (turns_at m (next_of conf step.call))) at reached)
+
+pub all_met : (conf : Conf) (workers : ℕ) (p q : PassView) (clock : Clock) (all rest : List Step) (lines : Lines) (out : List ℕ) → rest ≡ [] → OnTheWay conf workers p q clock all rest lines out → left_of lines out ≡ out
+    → Tells conf workers p q (turns_of conf (timed clock all)) (λ replies. left_of lines (script_lines conf (timed clock all) replies)) out
+all_met conf workers p q clock all rest lines out none way whole =
+    steps_end conf workers p q (turns_of conf (timed clock all)) lines (λ replies. left_of lines (script_lines conf (timed clock all) replies)) out
+    (subst (λ (l : List Step). OnTheWay conf workers p q clock all l lines out) none way) whole
 
 -- ---- steps among others
 
