@@ -1,8 +1,8 @@
 #!/usr/bin/env bash
 # Nanoseconds a call of generated runs with 1, 2 and 4 workers, and in the same run the same calls in PHP on its APCu,
 # in as many forked processes (where php with apcu and pcntl is installed); and the most memory that a run of 64 workers
-# takes. `run` is the whole program, which makes its scripts from the number first, without what a run of no calls
-# takes; `php` is the loop of the calls alone, whose numbers were drawn before. Both count on the same counters, which
+# takes. `run` is the whole program, which draws each call before it makes it, without what a run of no calls takes;
+# `php` is the loop of the calls alone, whose numbers were drawn before. Both count on the same counters, which
 # are compared. A figure is the least of three rounds, which are kept only where the machine is quiet (quiet.sh).
 # Usage: bench/generate/run.sh [PROGRAM [CALLS [CALLS-OF-64]]]
 set -eu
