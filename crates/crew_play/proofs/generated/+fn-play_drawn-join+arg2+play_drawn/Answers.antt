@@ -15,7 +15,7 @@ use Rattle.crew_play.proofs.LearnedEnds.{first_alone, one_more, others_made, own
 use Rattle.crew_play.proofs.generated.+fn-play_drawn-join+arg2+play_drawn.Goals as goal
 
 pub play_lines-pass-requires-clause-left : goal.play_lines-pass-requires-clause-left
-play_lines-pass-requires-clause-left g t c =
+play_lines-pass-requires-clause-left g t c = λ κs within.
     let none : c.args.count - 1 ≡ 0 = omega (arith, c.if-before-eq0.true) in
     let left = c.last_pass-pass.ensures.left ∙ ap (slice_index g.N.TableName.budgets) none in
     subst (λ n. events_in g.N.TableName.conf.slots c.of-steps.result < n) (sym left) (c.requires.enough.each 0 c.of-steps.result c.of-steps.ensures)
