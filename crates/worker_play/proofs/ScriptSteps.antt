@@ -1,5 +1,5 @@
 -- Scripts, call by call.
-use Rattle.std.proofs.Common.{◌≡◌, ℕ, suc, ◌-◌, ◌<◌, Bool, List, [], ◌∷◌, ◌++◌, length, take, refl, sym, ap, subst, ◌∙◌, append_assoc, length-append, arith}
+use Rattle.std.proofs.Common.{◌≡◌, ℕ, suc, ◌-◌, ◌<◌, List, [], ◌∷◌, ◌++◌, length, take, refl, sym, ap, subst, ◌∙◌, append_assoc, length-append, arith}
 use Rattle.std.specs.Prelude.{Contains}
 use Rattle.std.proofs.Math.Seq.{take-append_seam}
 use Rattle.std.proofs.lemmas.List.{append-nil}
@@ -9,12 +9,9 @@ use Rattle.apcu_model.specs.declared.request.Reply.{Reply}
 use Rattle.pin_table.specs.Values.{PassView}
 use Rattle.script_read.specs.declared.script.Step.{Step}
 use Rattle.script_read.specs.Budgets.{events_in}
-use Rattle.script_read.specs.Calls.{event_bound}
 use Rattle.script_read.specs.Clock.{moment_under, timed, timed_step}
 use Rattle.script_read.specs.Grammar.{ends_line}
-use Rattle.script_read.specs.Patterns.{call_pattern, MayBeRefused, HasRefusable}
 use Rattle.script_read.specs.Play.{next_of}
-use Rattle.script_read.proofs.RefusablePatterns.{step_refusable}
 use Rattle.reply_text.specs.Lines.{call_text, before, call_lines, script_lines}
 use Rattle.worker_play.specs.declared.script.Lines.{Lines}
 use Rattle.worker_play.specs.declared.script.Lines.TheVariants.{Kept, Dropped}
@@ -65,11 +62,7 @@ pub step_breaks : {A : Type 0} (conf : Conf) (workers : ℕ) (p o q : PassView) 
     → Midway conf workers p o turns (turns_of conf (step ∷ steps)) told to_tell → Reaches conf workers o q (turns_at step.t (next_of conf step.call)) → Reaches conf workers p q turns
 step_breaks conf workers p o q turns step steps told to_tell m r = more_asked conf workers p o q turns (turns_of conf (step ∷ steps)) m.0 m.1 (as_step conf workers o q step steps r)
 
--- enough events are left for the next step
-pub left_now : (conf : Conf) (step : Step) (steps : List Step) (n : ℕ) → events_in conf.slots (step ∷ steps) < n → event_bound conf.slots step.call < n
-left_now conf step steps n enough = omega (arith, enough, events_step conf.slots step steps)
-
--- and for those after it
+-- enough events are left for the steps after one
 pub left_after : (conf : Conf) (workers : ℕ) (o q : PassView) (t : ℕ) (step : Step) (steps : List Step) → Reaches conf workers o q (turns_at t (next_of conf step.call)) → events_in conf.slots (step ∷ steps) < o.known.left
     → events_in conf.slots steps < q.known.left
 left_after conf workers o q t step steps r enough =
@@ -127,15 +120,3 @@ AreAmong some all = (step : Step) → Contains some step → Contains all step
 
 pub among_behind : (step : Step) (rest all : List Step) → AreAmong (step ∷ rest) all → AreAmong rest all
 among_behind step rest all h = λ s c. h s (suc c.0, omega (arith, c.1), c.2)
-
--- the first of them has a pattern that may be refused
-pub first_refusable : (may_refuse : Bool → List ℕ → Type 0) (step : Step) (rest all : List Step) → AreAmong (step ∷ rest) all → MayBeRefused may_refuse (call_pattern step.call) → HasRefusable may_refuse all
-first_refusable may_refuse step rest all among refused =
-    let r = step_refusable may_refuse (step ∷ rest) 0 step refl refused in
-    record {
-      step = r.step;
-      pattern = r.pattern;
-      there = among r.step r.there;
-      has = r.has;
-      refusable = r.refusable;
-    }

@@ -42,6 +42,15 @@ returns-then-before-eq0-clause-made g t c =
     subst (λ k. HaveMade table conf scripts k c.play_lines-pass.result.0 c.args.ended.ended c.and_made.result) one
     (subst (λ (l : List PassView). HaveMade table conf scripts 1 c.play_lines-pass.result.0 l c.and_made.result) (sym {A = List PassView} c.requires.none_ended) alone)
 
+pub learn-first-requires-clause-other : goal.learn-first-requires-clause-other
+learn-first-requires-clause-other g t c =
+    let draws = c.args.draws.now in
+    let drawn = generated draws.seed draws.workers draws.calls in
+    let n : ℕ = c.args.count - 1 in
+    let few : n < length drawn = omega (arith, c.requires.some, c.requires.few, workers_counted draws.seed draws.workers draws.calls) in
+    let script = get_some drawn n few in
+    (c.join-front.ensures.second script.0 script.1).ended.table
+
 pub returns-clause-made : goal.returns-clause-made
 returns-clause-made g t c =
     let table = g.N.TableName.table in
