@@ -24,7 +24,8 @@ bench=$2
 divide=${DIVIDE:-1}
 scratch=$(mktemp -d)
 trap 'rm -rf "$scratch"' EXIT
-. "$here/malloc.sh"
+# The large pages that the wrapper asks for.
+export GLIBC_TUNABLES=glibc.malloc.hugetlb=1
 . "$here/quiet.sh"
 . "$here/generate/parts.sh"
 . "$here/play/parts.sh"

@@ -48,6 +48,7 @@ fetches() {
 
 table 'ns | a part of a call' 1000 "$scratch/costs"
 for rows in 1000 100000; do table "ns | a call in C, $rows rows" 1000 "$scratch/cache" "$rows"; done
-. "$here/../malloc.sh"
+# The large pages that the wrapper asks for.
+export GLIBC_TUNABLES=glibc.malloc.hugetlb=1
 table 'us | a fetch in C' 1000000 fetches
 tell_of_quiet

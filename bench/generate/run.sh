@@ -12,7 +12,8 @@ calls=${2:-1000000}
 most=${3:-65000}
 scratch=$(mktemp -d)
 trap 'rm -rf "$scratch"' EXIT
-. "$here/../malloc.sh"
+# The large pages that the wrapper asks for.
+export GLIBC_TUNABLES=glibc.malloc.hugetlb=1
 . "$here/../quiet.sh"
 . "$here/parts.sh"
 

@@ -17,7 +17,8 @@ program=${1:-$here/../../crates/apcu_run/out/apcu_run}
 divide=${DIVIDE:-1}
 scratch=$(mktemp -d)
 trap 'rm -rf "$scratch"' EXIT
-. "$here/../malloc.sh"
+# The large pages that the wrapper asks for.
+export GLIBC_TUNABLES=glibc.malloc.hugetlb=1
 . "$here/../quiet.sh"
 . "$here/parts.sh"
 . "$here/../generate/parts.sh"
