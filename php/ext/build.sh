@@ -43,4 +43,5 @@ cd "$build"
 grep -E '\.[ch]:[0-9]+:.*warning:' log >&2 || true
 cp modules/apcu.so "$ext/modules/apcu.so.new"
 mv "$ext/modules/apcu.so.new" "$ext/modules/apcu.so" # processes that run keep theirs
+rm -rf .libs # libtool's link in it would stop rt ci
 echo "$ext/modules/apcu.so"
