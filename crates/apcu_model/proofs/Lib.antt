@@ -8,13 +8,6 @@ pub mod Histories
 pub mod RowNumbers
 pub mod Windows
 pub mod RowOrigins
-mod ToldGraphs
-mod GraphLayout
-mod NumberPlaces
-mod TableValues
-mod ValueRuns
-mod RowsBySlot
-mod Gaps
 pub mod RequestSteps
 pub mod FirstMoment
 pub mod CacheInvariants

@@ -1,12 +1,9 @@
-//! The cache of one thread: what each request answers and leaves, and a plain program that does so.
+//! The cache of one thread: what each request answers and leaves.
 #![tactic(auto)]
 
 mod ask;
 mod conf;
-mod entry;
-mod generating;
 mod generator;
-mod infos;
 mod integers;
 mod items;
 mod journal;
@@ -14,14 +11,9 @@ mod keys;
 mod laws;
 mod limits;
 mod pairs;
-mod plain;
 mod request;
 mod row_info;
-mod rows;
 mod searching;
-mod state;
-mod tables;
-mod telling;
 
 pub use ask::Ask;
 pub use conf::{Clock, Conf, MOST_SEGMENTS, MOST_SLOTS, MOST_USABLE_WORDS, MOST_WORDS};
@@ -36,8 +28,6 @@ pub use laws::{
 };
 pub use limits::{LONGEST_INPUT, MOST_WORKERS};
 pub use pairs::Pairs;
-pub use plain::Plain;
 pub use request::{Event, Reply, Request, StoreAnswer};
 pub use row_info::{Counts, ListedRow, RowInfo};
 pub use searching::{Fields, List, Pattern};
-pub use tables::{tell_cache, tell_counts, tell_gaps, tell_key, tell_words};

@@ -6,8 +6,8 @@ ghost use Rattle.cache_core.specs.CoreCache.{cache_of, CacheStands};
 ghost use Rattle.cache_core.specs.Events.{IsUnchanged};
 
 use crate::rows::{list_removed, list_rows};
-use apcu_model::{tell_cache, tell_counts};
 use cache_core::Core;
+use info_tables::{tell_cache, tell_counts};
 use php_graph::Graph;
 use seg_words::{Segment, WordsIn};
 use std::alloc::{AllocError, Global};

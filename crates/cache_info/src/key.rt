@@ -6,8 +6,8 @@ ghost use Rattle.cache_core.specs.CoreCache.{cache_of, CacheStands};
 ghost use Rattle.cache_core.specs.Events.{IsUnchanged};
 
 use crate::entry::info_at;
-use apcu_model::tell_key;
 use cache_core::Core;
+use info_tables::tell_key;
 use php_graph::Graph;
 use seg_words::{Segment, WordsIn};
 use std::alloc::{AllocError, Global};

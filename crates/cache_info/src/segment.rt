@@ -9,8 +9,8 @@ ghost use Rattle.sma_blocks.specs.Ready.{IsReady};
 ghost use Rattle.cache_core.specs.CoreCache.{cache_of, CacheStands};
 ghost use Rattle.cache_core.specs.Events.{IsUnchanged};
 
-use apcu_model::{tell_gaps, tell_words};
 use cache_core::Core;
+use info_tables::{tell_gaps, tell_words};
 use php_graph::Graph;
 use seg_words::{Extent, Segment, WordsIn};
 use sma_blocks::Sma;

@@ -5,9 +5,10 @@ ghost use Rattle.apcu_model.specs.Sequential.{is_iteration};
 
 use crate::asking::{Act, number_in, request_of};
 use crate::small::Small;
-use apcu_model::{Conf, Plain, Reply, Request};
+use apcu_model::{Conf, Reply, Request};
 use notation::{ByteOut, write_value};
 use php_graph::{Bytes, Graph};
+use plain_cache::Plain;
 use std::alloc::{AllocError, Global};
 use std::process::Abort;
 use std::test::Fail;

@@ -2,7 +2,8 @@
 
 use crate::mark_requests::{Act, request_of};
 use crate::marks::{Event, Table};
-use apcu_model::{Conf, Plain, Reply};
+use apcu_model::{Conf, Reply};
+use plain_cache::Plain;
 use std::alloc::Global;
 use std::process::Abort;
 use std::test::Fail;

@@ -2,9 +2,10 @@
 
 use crate::calls::{Act, Answer, Call};
 use crate::values::{generator_of, number_of, told, value_of};
-use apcu_model::{Gen, Plain, Reply, Request};
+use apcu_model::{Gen, Reply, Request};
 use counter_entry::Fate;
 use php_graph::Bytes;
+use plain_cache::Plain;
 use std::alloc::Global;
 use std::process::Abort;
 use std::test::Fail;

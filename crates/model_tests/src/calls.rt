@@ -1,7 +1,8 @@
 //! Calls of the plain cache, and what they answer and count.
 
 use crate::play::{Call, NONE, Value, play, small};
-use apcu_model::{Plain, Reply, Request};
+use apcu_model::{Reply, Request};
+use plain_cache::Plain;
 use std::test::Fail;
 
 #[test]

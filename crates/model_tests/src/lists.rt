@@ -1,8 +1,9 @@
 //! What calls are asked with and gathered in: pairs, keys, items, requests and journals.
 
 use crate::play::{Value, generator, key, small, value_of};
-use apcu_model::{Ask, Gen, GenKind, ItemRow, Items, Journal, Keys, Mark, Pairs, Plain, Request};
+use apcu_model::{Ask, Gen, GenKind, ItemRow, Items, Journal, Keys, Mark, Pairs, Request};
 use php_graph::Bytes;
+use plain_cache::Plain;
 use std::alloc::Global;
 use std::process::Abort;
 use std::test::Fail;

@@ -1,0 +1,5 @@
+mod ToldGraphs
+mod GraphLayout
+mod NumberPlaces
+mod TableValues
+mod ValueRuns

@@ -1,0 +1,3 @@
+mod RowsBySlot
+mod Gaps
+mod PlacedRows
