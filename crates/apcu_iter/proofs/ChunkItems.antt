@@ -17,7 +17,7 @@ use Rattle.entry_slots.specs.Entries.{Entries, chain_of, entries_of}
 use Rattle.entry_slots.specs.Standing.{entries}
 use Rattle.cache_core.specs.declared.cache.Core.{Core}
 use Rattle.cache_core.specs.CoreCache.{cache_of}
-use Rattle.apcu_iter.specs.Choices.{Choice, is_chosen, is_skipped_in, uncounted}
+use Rattle.row_search.specs.Choices.{Choice, is_chosen, is_skipped_in, uncounted}
 use Rattle.apcu_iter.proofs.RowBounds.{AreFew, fewer}
 use Rattle.apcu_iter.proofs.SlotRows.{is_between, between_is, length_ordered}
 use Rattle.apcu_iter.proofs.ChunkEnds.{one_more}

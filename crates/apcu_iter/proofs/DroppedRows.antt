@@ -23,7 +23,7 @@ use Rattle.ttl_expunge.specs.Lists.{row_places, AreRowsAt}
 use Rattle.cache_core.specs.declared.cache.Core.{Core}
 use Rattle.cache_core.specs.CoreCache.{cache_of}
 use Rattle.cache_core.specs.LentEntries.{with_slots}
-use Rattle.apcu_iter.specs.Choices.{uncounted}
+use Rattle.row_search.specs.Choices.{uncounted}
 use Rattle.ttl_expunge.specs.Laws.{DropLaws}
 use Rattle.entry_slots.specs.Laws.{StandingLaws}
 use Rattle.apcu_iter.proofs.RowBounds.{some_of}

@@ -1,5 +1,3 @@
-mod RegexPatterns
-mod ChosenRows
 mod SlotRows
 mod RowBounds
 mod ChunkEnds

@@ -18,7 +18,7 @@ use Rattle.entry_slots.specs.Sums.{all_slots}
 use Rattle.ttl_expunge.specs.Lists.{row_places}
 use Rattle.apcu_iter.specs.declared.summing.Sums.{Sums}
 use Rattle.apcu_iter.specs.RowSums.{within, with_rows, no_sums, sums_of_both}
-use Rattle.apcu_iter.specs.Choices.{Choice, is_chosen, chosen_items, chosen_places}
+use Rattle.row_search.specs.Choices.{Choice, is_chosen, chosen_items, chosen_places}
 use Rattle.apcu_iter.proofs.SlotRows.{flat_last, is_between, between_is, length_ordered}
 
 -- ---- lists

@@ -16,7 +16,7 @@ use Rattle.cache_core.specs.declared.cache.Core.{Core}
 use Rattle.cache_core.specs.CoreCache.{cache_of}
 use Rattle.apcu_iter.specs.declared.summing.Sums.{Sums}
 use Rattle.apcu_iter.specs.RowSums.{within, with_rows, no_sums}
-use Rattle.apcu_iter.specs.Choices.{Choice, is_chosen, rows_in}
+use Rattle.row_search.specs.Choices.{Choice, is_chosen, rows_in}
 use Rattle.apcu_iter.proofs.RowBounds.{AreFew, size_of, some_of, fewer}
 
 pub record AreTotals (sums : Sums) (rows : List Row) : Type 0 where

@@ -1,3 +1,1 @@
-pub mod SearchFaults
-pub mod Choices
 pub mod RowSums

@@ -6,12 +6,11 @@ ghost use Rattle.apcu_model.specs.Cache.{Row};
 ghost use Rattle.entry_slots.specs.Lists.{has_place};
 ghost use Rattle.entry_slots.specs.Entries.{IsListed, chain_of, listed};
 ghost use Rattle.entry_slots.specs.Standing.{Stand, entries};
-ghost use Rattle.apcu_iter.specs.Choices.{chosen_items};
+ghost use Rattle.row_search.specs.Choices.{chosen_items};
 
-use crate::entry::item_at;
-use crate::row_test::RowTest;
 use apcu_model::{Fields, ItemRow};
 use entry_slots::{EntrySlots, standing_laws};
+use row_search::{RowTest, item_at};
 use seg_words::{Segment, WordsIn};
 use std::alloc::{AllocError, Global};
 

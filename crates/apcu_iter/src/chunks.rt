@@ -6,14 +6,13 @@ ghost use Rattle.apcu_model.specs.Chunks.{chunk_of};
 ghost use Rattle.entry_slots.specs.Standing.{Stand, entries};
 ghost use Rattle.cache_core.specs.CoreCache.{cache_of, CacheStands};
 ghost use Rattle.cache_core.specs.Events.{IsUnchanged};
-ghost use Rattle.apcu_iter.specs.Choices.{uncounted};
+ghost use Rattle.row_search.specs.Choices.{uncounted};
 
 use crate::chains::{list_removed, list_slot};
-use crate::row_test::RowTest;
-use crate::search::Search;
 use apcu_model::{Chunk, Fields, Items, List};
 use cache_core::Core;
 use entry_slots::EntrySlots;
+use row_search::{RowTest, Search};
 use seg_words::{Segment, WordsIn};
 use std::alloc::{AllocError, Global};
 

@@ -12,14 +12,12 @@ ghost use Rattle.entry_slots.specs.Standing.{Stand, entries};
 ghost use Rattle.ttl_expunge.specs.Lists.{row_places};
 ghost use Rattle.cache_core.specs.CoreCache.{cache_of};
 ghost use Rattle.cache_core.specs.Events.{MayDrop, DoesIf};
-ghost use Rattle.apcu_iter.specs.Choices.{chosen_places, uncounted};
+ghost use Rattle.row_search.specs.Choices.{chosen_places, uncounted};
 
-use crate::entry::head_at;
-use crate::row_test::RowTest;
-use crate::search::Search;
 use apcu_model::List;
 use cache_core::Core;
 use entry_slots::{EntrySlots, standing_laws};
+use row_search::{RowTest, Search, head_at};
 use seg_words::{Segment, WordsIn};
 use std::alloc::{AllocError, Global};
 use ttl_expunge::{drop_laws, drop_rows};

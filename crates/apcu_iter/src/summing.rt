@@ -12,14 +12,12 @@ ghost use Rattle.entry_slots.specs.Standing.{Stand, entries};
 ghost use Rattle.cache_core.specs.CoreCache.{cache_of, CacheStands};
 ghost use Rattle.cache_core.specs.Events.{IsUnchanged};
 ghost use Rattle.apcu_iter.specs.RowSums.{no_sums, with_rows, sums_of_both};
-ghost use Rattle.apcu_iter.specs.Choices.{is_chosen, rows_in};
+ghost use Rattle.row_search.specs.Choices.{is_chosen, rows_in};
 
-use crate::entry::head_at;
-use crate::row_test::RowTest;
-use crate::search::Search;
 use apcu_model::List;
 use cache_core::Core;
 use entry_slots::{EntrySlots, Head, standing_laws};
+use row_search::{RowTest, Search, head_at};
 use seg_words::{Segment, WordsIn};
 use std::alloc::AllocError;
 

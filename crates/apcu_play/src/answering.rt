@@ -16,7 +16,7 @@ use crate::judging::judge;
 use crate::play::{Printed, play, watch};
 use crate::reading::{crew_of, input_of, scripts_in_front};
 use crate::status::Status;
-use apcu_iter::Maker;
+use row_search::Maker;
 use apcu_model::Conf;
 use conf_read::{Settings, Task};
 use crew_play::CrewFault;

@@ -15,7 +15,7 @@ ghost use Rattle.apcu_play.specs.Tasks.{ending_for, verdict_text};
 
 use crate::play::Printed;
 use crate::status::Status;
-use apcu_iter::Maker;
+use row_search::Maker;
 use apcu_model::{Clock, Conf};
 use crew_play::CrewFault;
 use itoa::Buffer;

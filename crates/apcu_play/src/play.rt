@@ -16,7 +16,7 @@ ghost use Rattle.reply_text.specs.Output.{worker_texts};
 use crate::journal::write_journal;
 use crate::status::Status;
 use crate::summary::write_summary;
-use apcu_iter::Maker;
+use row_search::Maker;
 use apcu_model::Conf;
 use conf_read::Settings;
 use crew_play::{CrewFault, Left, Played, play_generated, play_loaded, play_scripts};

@@ -18,7 +18,7 @@ use crate::answering::answer;
 use crate::ending::{Ending, tell_ending};
 use crate::printing::print;
 use crate::status::Status;
-use apcu_iter::Maker;
+use row_search::Maker;
 use conf_read::{ConfFault, Settings, read_settings};
 use io_edges::{Gate, Sink, Source};
 use preload_set::readings_are_bundles;

@@ -2,7 +2,7 @@
 
 use crate::gates::{Hold, Holding};
 use crate::runs::{Ended, Streams, played, smooth};
-use apcu_iter::RegexMaker;
+use row_search::RegexMaker;
 use apcu_play::Status;
 use io_edges::Point;
 use notation::ByteOut;

@@ -3,7 +3,7 @@
 use crate::gates::Hold::Meet;
 use crate::gates::Holding;
 use crate::runs::{Run, SMALL, expect, expect_by, played, smooth, whole, words_of};
-use apcu_iter::{RefuseAll, RegexMaker};
+use row_search::{RefuseAll, RegexMaker};
 use apcu_play::Status;
 use io_edges::Point::Before;
 use std::test::Fail;

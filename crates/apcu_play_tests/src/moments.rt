@@ -1,7 +1,7 @@
 //! Whether a call's moment is the second of its line or the start of its request.
 
 use crate::runs::{SMALL, expect_of, played, smooth, whole, words_of};
-use apcu_iter::RegexMaker;
+use row_search::RegexMaker;
 use apcu_play::Status;
 use io_edges::NoGate;
 use std::alloc::Global;

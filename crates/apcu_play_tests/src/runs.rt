@@ -1,6 +1,6 @@
 //! A run of the program, and what comes of it.
 
-use apcu_iter::{Maker, RegexMaker};
+use row_search::{Maker, RegexMaker};
 use apcu_play::{Status, run};
 use io_edges::{Gate, MemSink, MemSource, NoGate};
 use notation::ByteOut;

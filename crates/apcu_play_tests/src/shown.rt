@@ -1,7 +1,7 @@
 //! A script of this cache in `docs/differences/`, and what it prints there.
 
 use crate::runs::{played, smooth};
-use apcu_iter::RegexMaker;
+use row_search::RegexMaker;
 use apcu_play::Status;
 use io_edges::NoGate;
 use notation::ByteOut;

@@ -5,7 +5,7 @@ use crate::gates::Holding;
 use crate::pieces::Piece::{self, Text, Zs};
 use crate::pieces::spelled;
 use crate::runs::{LARGER, SMALL, played, smooth, words_of};
-use apcu_iter::RegexMaker;
+use row_search::RegexMaker;
 use apcu_play::Status;
 use io_edges::NoGate;
 use io_edges::Point::{After, Before, Chunk, Pinned};

@@ -1,7 +1,7 @@
 //! The program: `main`, which hands its words and the standard streams to `apcu_play::run`.
 #![tactic(auto)]
 
-use apcu_iter::RegexMaker;
+use row_search::RegexMaker;
 use apcu_play::{Status, run, tell};
 use io_edges::{NoGate, StdSink, StdSource};
 use std::alloc::AllocError;

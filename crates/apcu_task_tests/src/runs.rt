@@ -1,6 +1,6 @@
 //! A run of the program, and what comes of it.
 
-use apcu_iter::RegexMaker;
+use row_search::RegexMaker;
 use apcu_play::{Status, run};
 use io_edges::{MemSink, MemSource, NoGate};
 use std::alloc::Global;

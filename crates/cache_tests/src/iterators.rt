@@ -2,7 +2,7 @@
 
 use crate::pair::shape;
 use crate::small::Small;
-use apcu_iter::{RefuseAll, RegexMaker, Search, SearchFault};
+use row_search::{RefuseAll, RegexMaker, Search, SearchFault};
 use apcu_model::{Chunk, Fields, List, Pattern};
 use php_graph::Bytes;
 use std::alloc::{AllocError, Global};

@@ -4,7 +4,7 @@ ghost use Rattle.std.specs.Prelude.{◌≡◌, None, Some};
 ghost use Rattle.apcu_model.specs.Asking.{asked};
 ghost use Rattle.mark_play.specs.Asks.{MayBeAsked};
 
-use apcu_iter::{RegexMaker, Search};
+use row_search::{RegexMaker, Search};
 use apcu_model::{Ask, Conf, Fields, List, Reply, Request};
 use mark_play::Replay;
 use std::alloc::Global;

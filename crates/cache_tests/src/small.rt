@@ -8,7 +8,8 @@ ghost use Rattle.cache_core.specs.CoreCache.{CacheStands};
 
 use crate::calls::{Act, Answer, Call};
 use crate::values::{Value, generator_of, told, value_of};
-use apcu_iter::{Search, chunk, chunk_delete, totals};
+use apcu_iter::{chunk, chunk_delete, totals};
+use row_search::Search;
 use apcu_model::{Chunk, Conf, Counts, Fields, Gen, List, StoreAnswer, integer};
 use cache_core::{Core, Look, Scalar};
 use counter_entry::{IncAnswer, cas, entry, inc};

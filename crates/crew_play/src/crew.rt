@@ -18,7 +18,7 @@ ghost use Rattle.worker_play.specs.declared.script.Lines.TheVariants.{Kept};
 ghost use Rattle.worker_play.specs.declared.script.PlayFault.TheVariants as faults;
 
 use crate::cast::Cast;
-use apcu_iter::Maker;
+use row_search::Maker;
 use io_edges::Gate;
 use notation::ByteOut;
 use pin_table::{Ended, EndedList, Pass, Passes, TableName};

@@ -21,7 +21,7 @@ ghost use Rattle.crew_play.specs.declared.play.CrewFault.TheVariants.{Memory, To
 
 use crate::crew::last_pass;
 use crate::play::CrewFault;
-use apcu_iter::Maker;
+use row_search::Maker;
 use apcu_model::{Clock, Conf, MOST_EVENTS};
 use io_edges::Gate;
 use notation::ByteOut;

@@ -11,7 +11,7 @@ ghost use Rattle.worker_play.specs.declared.script.PlayFault.TheVariants as faul
 
 use crate::cast::Cast;
 use crate::crew::{last_worker, play_crew};
-use apcu_iter::Maker;
+use row_search::Maker;
 use io_edges::Gate;
 use notation::ByteOut;
 use pin_table::{EndedList, Passes, TableName};

@@ -18,7 +18,7 @@ use crate::budgets::budgets;
 use crate::cast::Cast;
 use crate::order::{Order, play_all};
 use crate::patterns::try_patterns;
-use apcu_iter::Maker;
+use row_search::Maker;
 use apcu_model::{Clock, Conf, Counts, Journal};
 use cache_core::Core;
 use io_edges::Gate;

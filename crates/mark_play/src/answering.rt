@@ -18,7 +18,8 @@ ghost use Rattle.entry_slots.specs.Standing.{Stand, entries};
 ghost use Rattle.apcu_model.specs.Cache.{Row};
 ghost use Rattle.mark_play.specs.Windows.{window_by, window_on};
 
-use apcu_iter::{Search, chunk, chunk_delete, totals};
+use apcu_iter::{chunk, chunk_delete, totals};
+use row_search::Search;
 use apcu_model::{Ask, Reply, StoreAnswer};
 use cache_core::Core;
 use cache_info::{cache_info, key_info, sma_info};

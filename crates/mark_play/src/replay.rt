@@ -14,7 +14,7 @@ use crate::answering::{Window, answer};
 use crate::holding::begin_event;
 use crate::legal::is_legal;
 use crate::reached::{Asked, Reached};
-use apcu_iter::Search;
+use row_search::Search;
 use apcu_model::{Ask, Conf, MOST_WORKERS, Reply};
 use cache_core::Core;
 use max_tree::MaxRow;

@@ -4,7 +4,7 @@ ghost use Rattle.std.specs.Prelude.{◌≡◌, ◌∷◌, [], IfSome};
 ghost use Rattle.pin_table.specs.Lists.{first_passes, first_pass};
 
 use crate::playing::{CONF, plays, script_of};
-use apcu_iter::{Maker, RefuseAll, RegexMaker};
+use row_search::{Maker, RefuseAll, RegexMaker};
 use apcu_model::Clock;
 use io_edges::NoGate;
 use notation::ByteOut;

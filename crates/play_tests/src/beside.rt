@@ -8,7 +8,7 @@ ghost use Rattle.worker_play.specs.Goes.{KnowsOwnEvents};
 
 use crate::gates::Noting;
 use crate::playing::{CONF, plays, script_of};
-use apcu_iter::RegexMaker;
+use row_search::RegexMaker;
 use apcu_model::{Clock, Journal};
 use io_edges::{Gate, Point};
 use notation::ByteOut;

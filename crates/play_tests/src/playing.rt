@@ -4,7 +4,7 @@ ghost use Rattle.std.specs.Prelude.{◌≡◌, ◌<◌, ◌≤◌, IsTrue, [], l
 ghost use Rattle.script_read.specs.Budgets.{events_in};
 ghost use Rattle.worker_play.specs.Goes.{KnowsOwnEvents};
 
-use apcu_iter::Maker;
+use row_search::Maker;
 use apcu_model::{Clock, Conf};
 use io_edges::Gate;
 use notation::ByteOut;

@@ -1,7 +1,7 @@
 //! Verdicts on outputs, as tables.
 
 use crate::playing::CONF;
-use apcu_iter::{Maker, RefuseAll, RegexMaker};
+use row_search::{Maker, RefuseAll, RegexMaker};
 use apcu_model::Clock;
 use run_verify::{Verdict, VerifyFault, plays_are_short, verify};
 use script_read::{event_count, read_scripts};

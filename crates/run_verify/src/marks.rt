@@ -16,7 +16,7 @@ use crate::fault::VerifyFault;
 use crate::game_so_far::GameSoFar;
 use crate::patterns::search_for;
 use crate::seat::{Seat, keep, settle, wish_of};
-use apcu_iter::Maker;
+use row_search::Maker;
 use apcu_model::{Clock, Conf, Mark};
 use mark_play::Replay;
 use script_read::{Script, Scripts};

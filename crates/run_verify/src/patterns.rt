@@ -10,7 +10,7 @@ ghost use Rattle.run_verify.specs.declared.fault.VerifyFault.TheVariants as faul
 
 use crate::fault::VerifyFault;
 use crate::seat::Seat;
-use apcu_iter::{Maker, Search, SearchFault};
+use row_search::{Maker, Search, SearchFault};
 use script_read::{Call, Script, Scripts};
 use std::alloc::Global;
 

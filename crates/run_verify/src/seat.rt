@@ -11,7 +11,7 @@ ghost use Rattle.run_verify.specs.Seats.{queried_wish};
 ghost use Rattle.run_verify.specs.Seats.{HasReplyMore, IsAskable, queried};
 
 use crate::asking::{Query, asks, query_of, slot_after};
-use apcu_iter::{RefuseAll, Search};
+use row_search::{RefuseAll, Search};
 use apcu_model::{Ask, Clock, Conf, Reply};
 use notation::ByteOut;
 use reply_text::{Replies, render};

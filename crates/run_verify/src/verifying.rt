@@ -19,7 +19,7 @@ use crate::marks::play_mark;
 use crate::patterns::try_patterns;
 use crate::reading::{journal_at, line_end, read_mark};
 use crate::seats::{all_done, into_texts, seats_for};
-use apcu_iter::Maker;
+use row_search::Maker;
 use apcu_model::{Clock, Conf};
 use mark_play::Replay;
 use notation::ByteOut;

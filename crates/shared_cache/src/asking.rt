@@ -10,7 +10,7 @@ ghost use Rattle.shared_cache.specs.Follows.{Follows, FollowsEntry};
 
 use crate::shared::Shared;
 use crate::wait_lock::locked;
-use apcu_iter::Search;
+use row_search::Search;
 use apcu_model::{Chunk, Fields, Gen, List};
 use counter_entry::Fate;
 use php_graph::Graph;

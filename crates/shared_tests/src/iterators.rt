@@ -4,7 +4,7 @@ ghost use Rattle.std.specs.Prelude.{◌≡◌, ◌+◌, ◌≤◌, [], ◌∷◌
 
 use crate::copies::{CONF, array, begin_copy, end_copy, opened};
 use crate::steps::put;
-use apcu_iter::{RefuseAll, Search};
+use row_search::{RefuseAll, Search};
 use apcu_model::{Chunk, Fields, List, integer};
 use php_graph::Graph;
 use pin_table::{Pass, TableName};

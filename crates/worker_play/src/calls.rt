@@ -24,7 +24,7 @@ use crate::events::{
 use crate::noting::{note_there, note_undone, note_value, write_found};
 use crate::pools::play_pool;
 use crate::walks::{delete_found, walk_active, walk_deleted};
-use apcu_iter::Search;
+use row_search::Search;
 use apcu_model::List;
 use io_edges::Gate;
 use notation::ByteOut;

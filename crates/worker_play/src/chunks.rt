@@ -7,7 +7,7 @@ ghost use Rattle.shared_cache.specs.Asking.{MayAsk};
 ghost use Rattle.worker_play.specs.Goes.{wish, KnowsOwnEvents, GoesOn};
 
 use crate::context::{Context, When};
-use apcu_iter::Search;
+use row_search::Search;
 use apcu_model::{Chunk, Fields, List};
 use io_edges::{Gate, Point};
 use pin_table::{Pass, TableName};

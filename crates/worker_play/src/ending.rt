@@ -11,7 +11,7 @@ ghost use Rattle.worker_play.specs.declared.script.PlayFault.TheVariants.{Patter
 
 use crate::context::Context;
 use crate::script::{Lines, PlayFault, play_lines};
-use apcu_iter::Maker;
+use row_search::Maker;
 use apcu_model::Clock;
 use io_edges::Gate;
 use notation::ByteOut;

@@ -6,7 +6,7 @@ ghost use Rattle.script_read.specs.Patterns.{call_pattern, MayBeRefused};
 ghost use Rattle.worker_play.specs.declared.script.PlayFault.TheVariants as faults;
 
 use crate::script::PlayFault;
-use apcu_iter::{Maker, Search, SearchFault};
+use row_search::{Maker, Search, SearchFault};
 use script_read::Call;
 use std::alloc::Global;
 

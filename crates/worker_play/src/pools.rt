@@ -21,7 +21,7 @@ use crate::answers::note_answer;
 use crate::context::{Context, When};
 use crate::events::{delete, exists, fetch, store};
 use crate::walks::delete_found;
-use apcu_iter::Search;
+use row_search::Search;
 use io_edges::Gate;
 use notation::ByteOut;
 use php_graph::{Bytes, Graph};

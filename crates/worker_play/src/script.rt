@@ -16,7 +16,7 @@ ghost use Rattle.worker_play.specs.declared.script.PlayFault.TheVariants.{Memory
 
 use crate::context::{Context, When};
 use crate::searching::play_call;
-use apcu_iter::Maker;
+use row_search::Maker;
 use apcu_model::{Clock, Conf};
 use io_edges::{Gate, Point};
 use notation::ByteOut;

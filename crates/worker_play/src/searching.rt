@@ -14,7 +14,7 @@ use crate::calls::{play_directly, play_searching};
 use crate::context::{Context, When};
 use crate::patterns::search_of;
 use crate::script::PlayFault;
-use apcu_iter::Maker;
+use row_search::Maker;
 use io_edges::Gate;
 use notation::ByteOut;
 use pin_table::{Pass, TableName};

@@ -15,7 +15,7 @@ ghost use Rattle.worker_play.specs.Turns.{asks_at, steps_at};
 
 use crate::chunks::{chunk, chunk_delete};
 use crate::context::{Context, When};
-use apcu_iter::Search;
+use row_search::Search;
 use apcu_model::{Chunk, Fields, List, Reply};
 use io_edges::Gate;
 use notation::ByteOut;

@@ -3,7 +3,7 @@ use Rattle.apcu_model.specs.declared.items.ItemRow.{ItemRow}
 use Rattle.apcu_model.specs.Cache.{Row}
 use Rattle.entry_slots.specs.Standing.{entries}
 use Rattle.entry_slots.specs.RowWalks.{removed_here, removed_end}
-use Rattle.apcu_iter.specs.Choices.{Choice, chosen_items}
+use Rattle.row_search.specs.Choices.{Choice, chosen_items}
 use Rattle.apcu_iter.proofs.RowBounds.{are_few, removed_over}
 use Rattle.apcu_iter.proofs.RowFolds.{goes_on, goes_out, items_joined}
 use Rattle.apcu_iter.proofs.chains.list_removed.Goals as goal

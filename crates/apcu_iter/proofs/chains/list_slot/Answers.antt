@@ -4,7 +4,7 @@ use Rattle.apcu_model.specs.Cache.{Row}
 use Rattle.entry_slots.specs.Entries.{chain_of}
 use Rattle.entry_slots.specs.Standing.{entries}
 use Rattle.entry_slots.specs.RowWalks.{chain_here, chain_end, chain_over}
-use Rattle.apcu_iter.specs.Choices.{Choice, chosen_items}
+use Rattle.row_search.specs.Choices.{Choice, chosen_items}
 use Rattle.apcu_iter.proofs.RowFolds.{goes_on, goes_out, items_joined}
 use Rattle.apcu_iter.proofs.chains.list_slot.Goals as goal
 

@@ -4,7 +4,7 @@ use Rattle.apcu_model.specs.Chunks.{item_of, items_between}
 use Rattle.apcu_model.specs.declared.items.ItemRow.{ItemRow}
 use Rattle.entry_slots.specs.Entries.{chain_of}
 use Rattle.entry_slots.specs.Standing.{entries}
-use Rattle.apcu_iter.specs.Choices.{Choice, chosen_items, uncounted}
+use Rattle.row_search.specs.Choices.{Choice, chosen_items, uncounted}
 use Rattle.apcu_iter.proofs.ChunkItems.{slot_more, between_few, chunk_made}
 use Rattle.apcu_iter.proofs.RowBounds.{are_few}
 use Rattle.apcu_iter.proofs.ChunkEnds.{step_starts, step_on, step_ends, none_between}

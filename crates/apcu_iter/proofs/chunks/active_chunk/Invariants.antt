@@ -2,7 +2,7 @@ use Rattle.std.proofs.Common.{◌≡◌, map}
 use Rattle.seg_words.specs.Kept.{Kept}
 use Rattle.apcu_model.specs.Chunks.{item_of, items_between}
 use Rattle.entry_slots.specs.Standing.{entries}
-use Rattle.apcu_iter.specs.Choices.{uncounted}
+use Rattle.row_search.specs.Choices.{uncounted}
 use Rattle.apcu_iter.proofs.ChunkEnds.{Stepping}
 use Rattle.apcu_iter.proofs.chunks.active_chunk.Given as goal
 

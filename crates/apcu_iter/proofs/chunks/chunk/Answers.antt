@@ -5,7 +5,7 @@ use Rattle.apcu_model.specs.declared.searching.List.TheVariants.{Active, Deleted
 use Rattle.apcu_model.specs.Chunks.{chunk_of}
 use Rattle.entry_slots.specs.Standing.{entries}
 use Rattle.cache_core.specs.CoreCache.{cache_of}
-use Rattle.apcu_iter.specs.Choices.{uncounted}
+use Rattle.row_search.specs.Choices.{uncounted}
 use Rattle.apcu_iter.proofs.ChunkItems.{active_told, deleted_told}
 use Rattle.apcu_iter.proofs.chunks.chunk.Goals as goal
 

@@ -3,7 +3,7 @@ use Rattle.std.proofs.lemmas.List.{length-map}
 use Rattle.apcu_model.specs.Chunks.{item_of}
 use Rattle.apcu_model.specs.declared.items.ItemRow.{ItemRow}
 use Rattle.entry_slots.specs.Standing.{entries}
-use Rattle.apcu_iter.specs.Choices.{is_chosen}
+use Rattle.row_search.specs.Choices.{is_chosen}
 use Rattle.apcu_iter.proofs.ChunkItems.{deleted_is}
 use Rattle.apcu_iter.proofs.RowBounds.{are_few, fewer}
 use Rattle.apcu_iter.proofs.chunks.removed_chunk.Goals as goal

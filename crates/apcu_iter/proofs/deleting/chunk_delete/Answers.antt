@@ -11,7 +11,7 @@ use Rattle.entry_slots.specs.Standing.{entries}
 use Rattle.ttl_expunge.specs.ProbedRows.{Drops}
 use Rattle.ttl_expunge.specs.Steps.{MayDropRows, DropsRows}
 use Rattle.ttl_expunge.proofs.EventSteps.{may_kept}
-use Rattle.apcu_iter.specs.Choices.{Choice, uncounted}
+use Rattle.row_search.specs.Choices.{Choice, uncounted}
 use Rattle.apcu_iter.proofs.DroppedRows.{rows_of_chunk, rows_collected, drops_of_core, core_dropped, cache_dropped}
 use Rattle.apcu_iter.proofs.deleting.chunk_delete.Goals as goal
 use Rattle.apcu_iter.proofs.deleting.chunk_delete.Given as given

@@ -5,7 +5,7 @@ use Rattle.apcu_model.specs.Chunks.{items_between}
 use Rattle.entry_slots.specs.Entries.{chain_of}
 use Rattle.entry_slots.specs.Standing.{entries}
 use Rattle.ttl_expunge.specs.Lists.{row_places}
-use Rattle.apcu_iter.specs.Choices.{Choice, chosen_places, uncounted}
+use Rattle.row_search.specs.Choices.{Choice, chosen_places, uncounted}
 use Rattle.apcu_iter.proofs.ChunkItems.{slot_more}
 use Rattle.apcu_iter.proofs.ChunkEnds.{step_starts, step_on, step_ends, none_between}
 use Rattle.apcu_iter.proofs.ReadOnlyCalls.{stand_kept, kept_on}

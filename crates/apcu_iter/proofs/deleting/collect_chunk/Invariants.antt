@@ -3,7 +3,7 @@ use Rattle.seg_words.specs.Kept.{Kept}
 use Rattle.apcu_model.specs.Chunks.{items_between}
 use Rattle.entry_slots.specs.Standing.{entries}
 use Rattle.ttl_expunge.specs.Lists.{row_places}
-use Rattle.apcu_iter.specs.Choices.{uncounted}
+use Rattle.row_search.specs.Choices.{uncounted}
 use Rattle.apcu_iter.proofs.ChunkEnds.{Stepping}
 use Rattle.apcu_iter.proofs.deleting.collect_chunk.Given as goal
 

@@ -3,7 +3,7 @@ use Rattle.seg_words.specs.Kept.{Kept}
 use Rattle.entry_slots.specs.Lists.{first_place}
 use Rattle.entry_slots.specs.Entries.{chain_of}
 use Rattle.entry_slots.specs.Standing.{entries}
-use Rattle.apcu_iter.specs.Choices.{chosen_places}
+use Rattle.row_search.specs.Choices.{chosen_places}
 use Rattle.apcu_iter.proofs.deleting.collect_slot.Given as goal
 
 abbrev pub invariant-loop-passed : goal.invariant-loop-passed

@@ -2,7 +2,7 @@ use Rattle.std.proofs.Common.{◌≡◌, ◌∙◌, ◌<◌, filter, ap, refl, a
 use Rattle.entry_slots.specs.Entries.{chain_of}
 use Rattle.entry_slots.specs.Standing.{entries}
 use Rattle.apcu_iter.specs.RowSums.{with_rows, no_sums}
-use Rattle.apcu_iter.specs.Choices.{Choice, is_chosen}
+use Rattle.row_search.specs.Choices.{Choice, is_chosen}
 use Rattle.apcu_iter.proofs.RowFolds.{slots_before, one_slot_more, all_slots_sum}
 use Rattle.apcu_iter.proofs.summing.add_active.Goals as goal
 

@@ -3,7 +3,7 @@ use Rattle.std.specs.Prelude.{if◌then◌else◌}
 use Rattle.entry_slots.specs.Standing.{entries}
 use Rattle.entry_slots.specs.RowWalks.{removed_here, removed_end}
 use Rattle.apcu_iter.specs.RowSums.{with_rows}
-use Rattle.apcu_iter.specs.Choices.{Choice, is_chosen}
+use Rattle.row_search.specs.Choices.{Choice, is_chosen}
 use Rattle.apcu_iter.specs.declared.summing.Sums.{Sums}
 use Rattle.apcu_iter.proofs.RowFolds.{AreSmall, adds_one, adds_on, adds_out, small_sums, small_none}
 use Rattle.apcu_iter.proofs.RowBounds.{are_few, removed_over}

@@ -4,7 +4,7 @@ use Rattle.entry_slots.specs.Entries.{chain_of}
 use Rattle.entry_slots.specs.Standing.{entries}
 use Rattle.entry_slots.specs.RowWalks.{chain_here, chain_end, chain_over}
 use Rattle.apcu_iter.specs.RowSums.{with_rows}
-use Rattle.apcu_iter.specs.Choices.{Choice, is_chosen}
+use Rattle.row_search.specs.Choices.{Choice, is_chosen}
 use Rattle.apcu_iter.specs.declared.summing.Sums.{Sums}
 use Rattle.apcu_iter.proofs.RowFolds.{AreSmall, adds_one, adds_on, adds_out, small_sums, small_none}
 use Rattle.apcu_iter.proofs.ReadOnlyCalls.{stand_kept, kept_on}

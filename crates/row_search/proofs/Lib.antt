@@ -1,0 +1,2 @@
+pub mod RegexPatterns
+pub mod ChosenRows

@@ -1,0 +1,2 @@
+pub mod SearchFaults
+pub mod Choices
