@@ -1,8 +1,9 @@
 #!/usr/bin/env bash
 # That the pages are right: links, and paths of this repository in backquotes, lead to files; CLAIMS, READING, the
 # tables of ARCHITECTURE, and DIFFERENCES with the tests of its cases are what their scripts write; the clause that
-# README shows is in the sources; the commands of the pages of examples/, which show the programs in Rust, print what
-# they say; and each case of DIFFERENCES prints on both sides what its folder says.
+# README shows is in the sources; no file has more words of checks/words.py's list than it may keep; the commands of the
+# pages of examples/, which show the programs in Rust, print what they say; and each case of DIFFERENCES prints on both
+# sides what its folder says.
 # Usage: checks/pages.sh [PROGRAM]; it needs php with apcu and pcntl.
 set -u
 program=${1:+$(realpath "$1")}
@@ -47,6 +48,7 @@ PYTHON
 }
 
 lead_to_files || others=1
+python3 checks/words.py || others=1
 for page in claims reading crates differences; do
     bash "docs/$page.sh" --check || others=1
 done
