@@ -7,7 +7,6 @@
 #endif
 
 #include "php.h"
-#include "zend_smart_str.h"
 #include "shm.h"
 
 #define PHP_APCU_EXTNAME "apcu"
@@ -97,16 +96,6 @@ void apcu_serializers_find(void);
 
 /* Their names, with commas between. */
 zend_string *apcu_serializers_names(void);
-
-/* copies.c */
-
-typedef enum { APCU_COPIED, APCU_COPY_HAS_OBJECT, APCU_COPY_HAS_RESOURCE } apcu_copied;
-
-/* Writes an array as it is, unless one of its members is or holds what can't be written so. */
-apcu_copied apcu_copy_write(smart_str *out, zval *array);
-
-/* False where the bytes are none that were written; then `out` is null. */
-bool apcu_copy_read(zval *out, const char *bytes, size_t len);
 
 /* functions.c */
 

@@ -10,8 +10,7 @@ enum {
 	MARK_TEXT = 0,
 	MARK_PHP = 1,       /* as serialize writes it */
 	MARK_DOUBLE = 2,
-	MARK_OTHER = 3,     /* as a serializer of another module writes it */
-	MARK_COPY = 4       /* an array as it is */
+	MARK_OTHER = 3      /* as a serializer of another module writes it */
 };
 
 /* What other modules register, as APCu has it: they find the function by a constant. */
@@ -28,7 +27,7 @@ typedef struct {
 static serializer_t serializers[16];
 static size_t serializers_count;
 
-/* The one of apc.serializer; null until it is registered. */
+/* The one of apc.serializer; null until it is registered, and for "default". Then PHP's is used. */
 static const serializer_t *serializer;
 
 static int php_serialize(unsigned char **buf, size_t *len, const zval *value, void *config);
@@ -152,26 +151,6 @@ static bool pack_by_php(apcu_value *out, zval *value)
 	return true;
 }
 
-/* Arrays as they are, and by PHP's serializer where there is an object in them. */
-static bool pack_by_none(apcu_value *out, zval *value)
-{
-	smart_str bytes = {0};
-	apcu_copied copied = Z_TYPE_P(value) == IS_ARRAY ? apcu_copy_write(&bytes, value) : APCU_COPY_HAS_OBJECT;
-
-	switch (copied) {
-		case APCU_COPIED:
-			pack_text(out, &bytes, MARK_COPY);
-			return true;
-		case APCU_COPY_HAS_OBJECT:
-			smart_str_free(&bytes);
-			return pack_by_php(out, value);
-		default:
-			smart_str_free(&bytes);
-			php_error_docref(NULL, E_WARNING, "Cannot store resources in apcu cache");
-			return false;
-	}
-}
-
 static bool pack_by_other(apcu_value *out, const zval *value)
 {
 	size_t len = 0;
@@ -237,10 +216,7 @@ bool apcu_pack(apcu_value *out, zval *value)
 			php_error_docref(NULL, E_WARNING, "Cannot store resources in apcu cache");
 			return false;
 	}
-	if (!serializer) {
-		return pack_by_none(out, value);
-	}
-	return serializer->serialize == php_serialize ? pack_by_php(out, value) : pack_by_other(out, value);
+	return serializer && serializer->serialize != php_serialize ? pack_by_other(out, value) : pack_by_php(out, value);
 }
 
 void apcu_value_free(apcu_value *value)
@@ -282,8 +258,6 @@ static bool unpack_bytes(zval *out, char *bytes, size_t len, char mark, zend_str
 				return true;
 			}
 			break;
-		case MARK_COPY:
-			return apcu_copy_read(out, bytes, len);
 	}
 	ZVAL_NULL(out);
 	return false;

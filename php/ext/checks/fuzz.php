@@ -306,6 +306,8 @@ final class Calls
             }
             return $object;
         }
+        // APCu's default serializer refuses an array with a resource; PHP's writes 0 in its place.
+        $resource = ini_get('apc.serializer') === 'default' ? null : STDIN;
         $value = match ($kind) {
             22 => new Hooked($this->part($depth + 1)),
             23 => pick([Pure::One, Pure::Two, Suit::Hearts, Suit::Spades]),
@@ -314,7 +316,7 @@ final class Calls
             26 => new DateTimeImmutable('@' . mt_rand()),
             27 => new Caller($this->key()),
             28 => pick([new Unwilling(), new Unreadable(), new SplObjectStorage(), new SplFixedArray(2)]),
-            29 => pick([fn () => 1, new Exception('stored'), new class () {}, STDIN, new APCUIterator('/^none$/')]),
+            29 => pick([fn () => 1, new Exception('stored'), new class () {}, $resource, new APCUIterator('/^none$/')]),
         };
         $this->classes[get_debug_type($value)] = true;
         return $value;
