@@ -8,10 +8,10 @@ ghost use Rattle.seg_words.specs.Blocks.{IsTold};
 ghost use Rattle.entry_slots.specs.declared.head.TheConstants.{NEXT};
 
 use crate::head::NEXT;
-use seg_words::{HEAD_WORDS, PIN_COUNT, Segment, WordsIn};
+use seg_words::{HEAD_WORDS, PIN_COUNT, WordsIn};
 
 // The words of a block before its pin count.
-pub(crate) fn first_words<S: Segment>(seg: &mut S, at: u32) -> [u64; 11]
+pub(crate) fn first_words<S: WordsIn>(seg: &mut S, at: u32) -> [u64; 11]
     requires inside { at + HEAD_WORDS ≤ length (S.words seg.old) }
     requires told { (k : ℕ) → k < PIN_COUNT
         → IsTold (S.aside seg.old).windows (at + k) }
@@ -27,7 +27,7 @@ pub(crate) fn first_words<S: Segment>(seg: &mut S, at: u32) -> [u64; 11]
 }
 
 // The place that follows the block in its list.
-pub(crate) fn next_of<S: Segment>(seg: &mut S, at: u32) -> u32
+pub(crate) fn next_of<S: WordsIn>(seg: &mut S, at: u32) -> u32
     requires inside { at + HEAD_WORDS ≤ length (S.words seg.old) }
     requires told { IsTold (S.aside seg.old).windows (at + NEXT) }
     requires place { slice_index (S.words seg.old) (at + NEXT) < 2 ^ 32 }

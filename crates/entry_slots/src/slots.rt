@@ -81,7 +81,7 @@ impl EntrySlots {
     }
 
     /// The first entry of a slot's chain, or 0 where the chain is empty.
-    pub fn first_in<S: Segment>(&self, seg: &mut S, slot: u32) -> u32
+    pub fn first_in<S: WordsIn>(&self, seg: &mut S, slot: u32) -> u32
         requires stand { Stand S.WordsIn self.now seg.old }
         requires slot { slot < (entries self.now).conf.slots }
         ensures first { result ≡ first_place (chain_of (entries self.now) slot) }
@@ -99,7 +99,7 @@ impl EntrySlots {
     }
 
     /// The entry that follows one in its chain, or among the removed ones; 0 at the end.
-    pub fn after<S: Segment>(&self, seg: &mut S, at: u32) -> u32
+    pub fn after<S: WordsIn>(&self, seg: &mut S, at: u32) -> u32
         requires stand { Stand S.WordsIn self.now seg.old }
         requires there { has_place at (listed (entries self.now)) ≡ true }
         ensures row { FollowsInChain (entries self.now) at result }
@@ -110,7 +110,7 @@ impl EntrySlots {
     }
 
     /// Whether the entry has this key.
-    pub fn key_is<S: Segment>(&self, seg: &mut S, at: u32, key: &[u8]) -> bool
+    pub fn key_is<S: WordsIn>(&self, seg: &mut S, at: u32, key: &[u8]) -> bool
         requires stand { Stand S.WordsIn self.now seg.old }
         requires there { has_place at (listed (entries self.now)) ≡ true }
         requires short { length key.now < 2 ^ 32 }
@@ -131,7 +131,7 @@ impl EntrySlots {
     }
 
     /// The block of the row of this key, `None` exactly where no row has it.
-    pub fn find<S: Segment>(&self, seg: &mut S, key: &[u8]) -> Option<u32>
+    pub fn find<S: WordsIn>(&self, seg: &mut S, key: &[u8]) -> Option<u32>
         requires stand { Stand S.WordsIn self.now seg.old }
         requires short { length key.now < 2 ^ 32 }
         ensures row { result ≡ place_of key.now (entries self.now) }
@@ -185,7 +185,7 @@ impl EntrySlots {
     }
 
     /// What the entry's first words say.
-    pub fn head<S: Segment>(&self, seg: &mut S, at: u32) -> Head
+    pub fn head<S: WordsIn>(&self, seg: &mut S, at: u32) -> Head
         requires stand { Stand S.WordsIn self.now seg.old }
         requires there { has_place at (listed (entries self.now)) ≡ true }
         ensures head { (row : Row) → IsListed (entries self.now) at row

@@ -59,7 +59,7 @@ impl EntrySlots {
 
     /// Finds where the row of a key stands, by one walk along the chain of its slot as far as
     /// there. `limit` is the cache's time limit.
-    pub fn seek<S: Segment>(&self, seg: &mut S, key: &[u8], slot: u32, limit: u32, t: u64) -> Spot
+    pub fn seek<S: WordsIn>(&self, seg: &mut S, key: &[u8], slot: u32, limit: u32, t: u64) -> Spot
         requires short { length key.now < 2 ^ 32 }
         requires stand { Stand S.WordsIn self.now seg.old }
         requires slot { slot ≡ slot_of (entries self.now).conf key.now }
@@ -102,7 +102,7 @@ impl EntrySlots {
 
     /// Whether a row of the chain is expired. The walk that found the spot is gone on with: the
     /// rows before it are not read again.
-    pub fn has_expired<S: Segment>(&self, seg: &mut S, spot: Spot, limit: u32, t: u64) -> bool
+    pub fn has_expired<S: WordsIn>(&self, seg: &mut S, spot: Spot, limit: u32, t: u64) -> bool
         requires stand { Stand S.WordsIn self.now seg.old }
         requires spot { IsSpot (entries self.now) t spot }
         requires limit { limit ≡ (entries self.now).conf.ttl }
