@@ -21,7 +21,7 @@ impl Core {
     /// The place of the row that a look-up of the key at the moment `t`, in seconds, finds, and its
     /// value where that is null, a truth value or an integer. Nothing is counted, and the row is
     /// not used.
-    pub fn peek<S: WordsIn>(&self, seg: &mut S, key: &[u8], t: u64) -> Option<(u32, Option<Scalar>)>
+    pub fn peek<S: Segment>(&self, seg: &mut S, key: &[u8], t: u64) -> Option<(u32, Option<Scalar>)>
         requires short { length key.now < 2 ^ 32 }
         requires stand { CacheStands S.WordsIn self.now seg.old }
         ensures found { result ≡ option_map (λ (row : Row). (row.place, scalar_of row.graph))

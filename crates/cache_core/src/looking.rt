@@ -31,7 +31,7 @@ fn answer(at: u32, scalar: Option<Scalar>) -> Look
 
 impl Core {
     // The place of the row that a look-up of the key finds.
-    pub(crate) fn find_live<S: WordsIn>(&self, seg: &mut S, key: &[u8], t: u64) -> Option<u32>
+    pub(crate) fn find_live<S: Segment>(&self, seg: &mut S, key: &[u8], t: u64) -> Option<u32>
         requires short { length key.now < 2 ^ 32 }
         requires stand { CacheStands S.WordsIn self.now seg.old }
         ensures found { IfSome result (λ at. IsFound key.now t (cache_of self.now) at) }
@@ -50,7 +50,7 @@ impl Core {
 
     // The value of the key's row, which is at `at`, if it is null, a truth value or an integer. No
     // other word of the row is read.
-    pub(crate) fn scalar_at<S: WordsIn>(&self, seg: &mut S, key: &[u8], at: u32) -> Option<Scalar>
+    pub(crate) fn scalar_at<S: Segment>(&self, seg: &mut S, key: &[u8], at: u32) -> Option<Scalar>
         requires short { length key.now < 2 ^ 32 }
         requires stand { CacheStands S.WordsIn self.now seg.old }
         requires there { (row : Row) × IsRowOf (cache_of self.now) key.now at row }
@@ -64,7 +64,7 @@ impl Core {
 
     // Where the row of the key stands or a new one would, and whether a look-up finds it; `slot` is
     // the key's.
-    fn seek_row<S: WordsIn>(&self, seg: &mut S, key: &[u8], slot: u32, t: u64) -> (Spot, bool)
+    fn seek_row<S: Segment>(&self, seg: &mut S, key: &[u8], slot: u32, t: u64) -> (Spot, bool)
         requires short { length key.now < 2 ^ 32 }
         requires slot { slot ≡ slot_of self.now.conf key.now }
         requires stand { CacheStands S.WordsIn self.now seg.old }
@@ -86,7 +86,7 @@ impl Core {
     }
 
     // Where the row stands that a look-up of the key finds; `slot` is the key's.
-    pub(crate) fn find_spot<S: WordsIn>(
+    pub(crate) fn find_spot<S: Segment>(
         &self,
         seg: &mut S,
         key: &[u8],
@@ -107,7 +107,7 @@ impl Core {
     }
 
     // Where a new row of the key would stand, unless a look-up finds one; `slot` is the key's.
-    pub(crate) fn new_spot<S: WordsIn>(
+    pub(crate) fn new_spot<S: Segment>(
         &self,
         seg: &mut S,
         key: &[u8],
@@ -128,7 +128,7 @@ impl Core {
     }
 
     /// Whether a look-up of the key at the moment `t`, in seconds, finds a row. Nothing is counted.
-    pub fn exists<S: WordsIn>(&self, seg: &mut S, key: &[u8], t: u64) -> bool
+    pub fn exists<S: Segment>(&self, seg: &mut S, key: &[u8], t: u64) -> bool
         requires short { length key.now < 2 ^ 32 }
         requires stand { CacheStands S.WordsIn self.now seg.old }
         ensures found { result ≡ is_some (live_row key.now t (cache_of self.now)) }

@@ -11,6 +11,7 @@ ghost use Rattle.entry_slots.specs.Reading.{ImageIn};
 ghost use Rattle.entry_slots.specs.Standing.{Stand, entries};
 
 use crate::head::{ATIME, CTIME, TTL, has_passed};
+use crate::reading::hard_expired_at;
 use crate::slots::EntrySlots;
 use seg_words::{HEAD_WORDS, IMAGE_LENGTH, WordsIn, words_in};
 
@@ -24,12 +25,7 @@ impl EntrySlots {
             → result ≡ is_hard_expired t row }
         ensures kept { Kept S.WordsIn seg.old seg.new }
     {
-        let own = seg.load(at + TTL);
-        if own == 0 {
-            return false;
-        }
-        let ctime = seg.load(at + CTIME);
-        has_passed(own, ctime, t)
+        hard_expired_at(seg, at, t)
     }
 
     /// Whether the own time of the entry at a place is over at the moment `t` or, where it has
