@@ -120,6 +120,7 @@ impl Segment for LateWords {
 /// Words of which those behind the first ones are 0, on loan for one call that writes none of them.
 ///
 /// Others may read the words at the same time. No window is ever open.
+#[derive(Drop)]
 pub struct LentWords<'a> {
     // The first words.
     written: &'a [u64],
