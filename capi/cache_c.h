@@ -91,7 +91,12 @@ typedef struct {
     uint64_t t;      /* the second of the call */
     uint64_t number; /* an integer's 64 bits, or a truth value; a seat */
     uint64_t set;    /* an integer's 64 bits; a count of bytes */
+    uint64_t hash;   /* the key's, for cache_ask_hashed; cache_ask computes it */
 } cache_request;
+
+/* The hash of a key, as PHP computes it: zend_string_hash_val of that string. It is 0 if the pointer
+ * is null or the key has 4 GB or more. */
+static inline uint64_t cache_hash(const uint8_t *key, size_t key_len);
 
 /* The answers that are no values. */
 enum {
@@ -120,6 +125,12 @@ typedef struct {
  * so a store may find less room; it never waits. */
 static inline cache_answer cache_ask(uint8_t *at, const cache_request *ask, const uint8_t *key,
                                      size_t key_len, const uint8_t *bytes, size_t bytes_len);
+
+/* The same; the caller has computed ask->hash. A wrong hash breaks the cache: the row of the key is
+ * put where no other call finds it. */
+static inline cache_answer cache_ask_hashed(uint8_t *at, const cache_request *ask,
+                                            const uint8_t *key, size_t key_len,
+                                            const uint8_t *bytes, size_t bytes_len);
 
 /* How many seats there are, from 0 on. */
 enum { CACHE_SEATS = 64 };
@@ -181,9 +192,48 @@ typedef struct {
  * pointer is null. */
 static inline uint64_t cache_list_gaps(uint8_t *at, uint32_t from, cache_gap *out, size_t room);
 
+/* Look-ups by any number of callers at once.
+ *
+ * cache_find_shared answers a fetch and writes nothing, so its callers need not exclude one another.
+ * They and any call that may change the cache do. What it answers is counted later, by cache_count,
+ * before any other call: then the cache is the one that the fetches leave, in any order. */
+
+/* What a look-up needs to know beside the words. It is good until the next call that may change the
+ * cache. */
+struct cache_view {
+    uint32_t slots, rows, len; /* how many slots, rows and words there are */
+};
+
+/* What a shared look-up answers. */
+struct cache_found {
+    uint32_t kind;  /* these four are those of a cache_answer */
+    uint32_t place;
+    int64_t number;
+    uint64_t len;
+    uint32_t row;   /* the place of the row that was found, for cache_count; 0: there is none */
+};
+
+/* All are 0 if the handle is null. */
+static inline void cache_get_view(uint8_t *at, struct cache_view *view);
+
+/* What CACHE_LOOK would answer at the second t. `words` is the memory of 8 * shape.words bytes that
+ * cache_new asked for, of which the first `written` words are given; the others are taken as 0. All
+ * view->len of them may be given if that memory was 0 when cache_new got it. `hash` is the key's.
+ *
+ * CACHE_BAD if a pointer is null, the view is of no cache, or more words are given than there are. */
+static inline void cache_find_shared(const struct cache_view *view, const uint64_t *words,
+                                     size_t written, const uint8_t *key, size_t key_len,
+                                     uint64_t hash, uint64_t t, struct cache_found *found);
+
+/* Counts shared look-ups of the second t: a hit and a use for each of these rows, which are still
+ * there, and so many misses. False, and nothing is counted, if a pointer is null. */
+static inline bool cache_count(uint8_t *at, const uint32_t *rows, size_t count, uint64_t misses,
+                               uint64_t t);
+
 /* The exports: each is the call above whose name it begins with, but looks for nothing first. */
 
 uint32_t cache_new_unchecked(const cache_shape *shape, uint8_t *at);
+uint64_t cache_hash_unchecked(const uint8_t *key, size_t key_len);
 cache_answer cache_ask_unchecked(uint8_t *at, const cache_request *ask, const uint8_t *key,
                                  size_t key_len, const uint8_t *bytes, size_t bytes_len);
 bool cache_let_go_unchecked(uint8_t *at, uint32_t seat);
@@ -194,6 +244,14 @@ uint64_t cache_list_rows_unchecked(uint8_t *at, uint32_t slot, uint64_t skip, ca
                                    size_t room);
 uint64_t cache_list_gaps_unchecked(uint8_t *at, uint32_t from, cache_gap *out, size_t room);
 
+struct cache_view cache_get_view_unchecked(uint8_t *at);
+struct cache_found cache_find_shared_unchecked(const struct cache_view *view,
+                                               const uint64_t *words, size_t written,
+                                               const uint8_t *key, size_t key_len, uint64_t hash,
+                                               uint64_t t);
+bool cache_count_unchecked(uint8_t *at, const uint32_t *rows, size_t count, uint64_t misses,
+                           uint64_t t);
+
 /* What looks first. */
 
 static inline uint32_t cache_new(const cache_shape *shape, uint8_t *at) {
@@ -202,8 +260,25 @@ static inline uint32_t cache_new(const cache_shape *shape, uint8_t *at) {
     return cache_new_unchecked(shape, at);
 }
 
+static inline uint64_t cache_hash(const uint8_t *key, size_t key_len) {
+    static const uint8_t none = 0;
+    if ((!key && key_len > 0) || key_len > UINT32_MAX)
+        return 0;
+    return cache_hash_unchecked(key ? key : &none, key_len);
+}
+
 static inline cache_answer cache_ask(uint8_t *at, const cache_request *ask, const uint8_t *key,
                                      size_t key_len, const uint8_t *bytes, size_t bytes_len) {
+    if (!ask)
+        return cache_ask_hashed(at, ask, key, key_len, bytes, bytes_len);
+    cache_request hashed = *ask;
+    hashed.hash = cache_hash(key, key_len);
+    return cache_ask_hashed(at, &hashed, key, key_len, bytes, bytes_len);
+}
+
+static inline cache_answer cache_ask_hashed(uint8_t *at, const cache_request *ask,
+                                            const uint8_t *key, size_t key_len,
+                                            const uint8_t *bytes, size_t bytes_len) {
     static const uint8_t none = 0;
     if (!at || !ask || (!key && key_len > 0) || (!bytes && bytes_len > 0)) {
         cache_answer bad = {CACHE_BAD, 0, 0, 0};
@@ -257,6 +332,37 @@ static inline uint64_t cache_list_gaps(uint8_t *at, uint32_t from, cache_gap *ou
     if (!at || !out || room > SIZE_MAX / 2 / sizeof *out)
         return 0;
     return cache_list_gaps_unchecked(at, from, out, room);
+}
+
+static inline void cache_get_view(uint8_t *at, struct cache_view *view) {
+    struct cache_view none = {0, 0, 0};
+    if (view)
+        *view = at ? cache_get_view_unchecked(at) : none;
+}
+
+static inline void cache_find_shared(const struct cache_view *view, const uint64_t *words,
+                                     size_t written, const uint8_t *key, size_t key_len,
+                                     uint64_t hash, uint64_t t, struct cache_found *found) {
+    static const uint8_t none = 0;
+    struct cache_found bad = {CACHE_BAD, 0, 0, 0, 0};
+    struct cache_found too_long = {CACHE_TOO_LONG, 0, 0, 0, 0};
+    if (!found)
+        return;
+    if (!view || !words || (!key && key_len > 0) || view->slots == 0 || written > view->len)
+        *found = bad;
+    else if (key_len > SIZE_MAX / 2)
+        *found = too_long;
+    else
+        *found = cache_find_shared_unchecked(view, words, written, key ? key : &none, key_len,
+                                             hash, t);
+}
+
+static inline bool cache_count(uint8_t *at, const uint32_t *rows, size_t count, uint64_t misses,
+                               uint64_t t) {
+    static const uint32_t none = 0;
+    if (!at || (!rows && count > 0) || count > SIZE_MAX / 2 / sizeof *rows)
+        return false;
+    return cache_count_unchecked(at, rows ? rows : &none, count, misses, t);
 }
 
 #ifdef __cplusplus

@@ -288,6 +288,29 @@ static void refused(void) {
     WANT(cache_copy(at, kept.place, out, 0));
 }
 
+static uint64_t hash_of(const char *key) {
+    return cache_hash((const uint8_t *)key, strlen(key));
+}
+
+/* The hash of a key, and requests that have it. */
+static void hashes(void) {
+    WANT(hash_of("") == 0x8000000000001505);
+    WANT(hash_of("a") == 0x800000000002b606);
+    WANT(hash_of("key") == 0x800000000b88878e);
+    WANT(hash_of("a key of more than eight bytes") == 0xa0eef71aec69cc1a);
+    WANT(hash_of("\377\377\377\377\377\377\377\377\377") == 0x837891c16250bf1c);
+    cache_request put = {.kind = CACHE_STORE, .value = CACHE_INT, .t = 60, .number = 6};
+    put.hash = hash_of("hashed");
+    WANT(cache_ask_hashed(at, &put, (const uint8_t *)"hashed", 6, NULL, 0).kind == CACHE_YES);
+    WANT(look("hashed", 60).number == 6);
+    cache_request fetch = {.kind = CACHE_LOOK, .t = 60, .hash = hash_of("hashed")};
+    WANT(cache_ask_hashed(at, &fetch, (const uint8_t *)"hashed", 6, NULL, 0).number == 6);
+    /* cache_ask computes it, whatever the request has */
+    fetch.hash = 7;
+    WANT(cache_ask(at, &fetch, (const uint8_t *)"hashed", 6, NULL, 0).number == 6);
+    WANT(fetch.hash == 7);
+}
+
 /* Each call with each null, and with lengths that no slice has; none of it changes the cache. */
 static void nulls(void) {
     const uint8_t *key = (const uint8_t *)"k";
@@ -311,6 +334,12 @@ static void nulls(void) {
     WANT(cache_ask(at, &put, key, 1, NULL, SIZE_MAX).kind == CACHE_BAD);
     WANT(cache_ask(at, &fetch, key, longest, key, 0).kind == CACHE_TOO_LONG);
     WANT(cache_ask(at, &put, key, 1, key, SIZE_MAX).kind == CACHE_TOO_LONG);
+    WANT(cache_ask_hashed(NULL, &fetch, key, 1, key, 0).kind == CACHE_BAD);
+    WANT(cache_ask_hashed(at, NULL, key, 1, key, 0).kind == CACHE_BAD);
+    WANT(cache_ask_hashed(at, &fetch, NULL, 1, key, 0).kind == CACHE_BAD);
+    WANT(cache_ask_hashed(at, &fetch, key, longest, key, 0).kind == CACHE_TOO_LONG);
+    WANT(cache_hash(NULL, 1) == 0 && cache_hash(key, longest) == 0);
+    WANT(cache_hash(NULL, 0) == 0x8000000000001505);
     WANT(!cache_let_go(NULL, 0));
     WANT(!cache_copy(NULL, 0, &byte, 1));
     WANT(!cache_copy(at, 0, NULL, 1));
@@ -363,6 +392,7 @@ int main(int argc, char **argv) {
             requests();
             told();
             seats();
+            hashes();
             refused();
         }
         shared_leave();

@@ -10,3 +10,4 @@ pub mod Steps
 pub mod ToldGaps
 pub mod ToldRows
 pub mod Walks
+pub mod SharedRows

@@ -4,3 +4,4 @@ pub mod Memory
 pub mod Seats
 pub mod Standing
 pub mod Told
+pub mod Shared

@@ -16,10 +16,12 @@ use Rattle.cache_c.specs.declared.rows.ToldRow.{ToldRow}
 use Rattle.cache_c.specs.contracts.counts.Gap.{the_row as gap_type}
 use Rattle.cache_c.specs.contracts.rows.ToldRow.{the_row as row_type}
 use Rattle.cache_c.specs.contracts.cache.Cache.{the_row}
-use Rattle.cache_c.specs.Standing.{StandsForCache, StandsUnchanged, cache_words}
+use Rattle.cache_c.specs.Standing.{StandsForCache, StandsUnchanged, LeavesHeld, cache_words}
+use Rattle.cache_c.specs.declared.shared.View.{View}
+use Rattle.cache_c.specs.Shared.{view_of, MayCount, IsCounted}
 use Rattle.cache_c.specs.declared.making.Shape.{Shape}
 use Rattle.cache_c.specs.declared.making.TheConstants.{MADE}
-use Rattle.cache_c.specs.Asked.{asked_for, IsAnswered, HasCopied, HasLetGo, KeepsSeats}
+use Rattle.cache_c.specs.Asked.{asked_for, IsAnswered, HasCopied, HasLetGo, KeepsSeats, MayAsk}
 use Rattle.cache_c.specs.Made.{conf_of, IsEmpty, IsRefusal}
 use Rattle.cache_c.specs.Told.{counts_told, found_row, rows_of, gaps_from}
 use Rattle.cache_c.specs.Told.{IsFoundBy, AreListedBy, AreGapsBy}
@@ -33,6 +35,10 @@ lies at cache = lies_at the_row full_share at cache
 -- and its words stand for it
 abbrev pub stands_at : Ptr → Cache → Fml
 stands_at at cache = fsep (lies at cache) (fex (StandsForCache cache) (λ _. ftrue))
+
+-- and the request has the hash of its key
+abbrev pub asks_at : Ptr → Cache → Ask → List ℕ → Fml
+asks_at at cache ask key = fsep (lies at cache) (fex (MayAsk cache ask key) (λ _. ftrue))
 
 -- It stands there still, and this call was its last event, with what was asked for and the reply
 -- that the answer tells; or the answer says that it was none, and nothing changed. What seats held
@@ -112,3 +118,16 @@ has_gaps old before at from out room count =
     fex (Cache × List Gap) (λ new. fsep (stands_at at new.0) (fsep (gaps_at out room new.1)
     (fex (StandsUnchanged old new.0 × AreGapsBy (gaps_from from (gaps_of (cache_of old.core)))
     before new.1 count) (λ _. ftrue))))
+
+-- The cache stands there as it was, and this is what a look-up needs to know of it.
+abbrev pub has_view : Cache → Ptr → View → Fml
+has_view old at view = has_told old at (λ new. view ≡ view_of old)
+
+-- A cache lies there whose rows are at these places.
+abbrev pub counts_at : Ptr → Cache → List ℕ → Fml
+counts_at at cache places = fsep (lies at cache) (fex (MayCount cache places) (λ _. ftrue))
+
+-- It stands there still, the look-ups were counted, and what seats held stands where it stood.
+abbrev pub has_used : Cache → Ptr → List ℕ → ℕ → ℕ → Bool → Fml
+has_used old at places misses t done = fex Cache (λ new. fsep (stands_at at new)
+    (fex (LeavesHeld old new × IsCounted old new places misses t done) (λ _. ftrue)))

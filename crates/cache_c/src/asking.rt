@@ -7,6 +7,7 @@ ghost use Rattle.std.specs.Int.{w64, cast_signed};
 ghost use Rattle.apcu_model.specs.declared.request.Request.TheVariants as requests;
 ghost use Rattle.apcu_model.specs.declared.request.Reply.TheVariants as replies;
 ghost use Rattle.apcu_model.specs.Sequential.{is_stored};
+ghost use Rattle.apcu_model.specs.SlotOrder.{slot_of};
 ghost use Rattle.counter_entry.specs.Numbers.{reply_of};
 ghost use Rattle.apcu_model.specs.Cache.{Row};
 ghost use Rattle.seg_words.specs.Blocks.{image_place};
@@ -17,7 +18,7 @@ ghost use Rattle.cache_c.specs.Standing.{cache_words, seats_of};
 ghost use Rattle.cache_c.specs.Asked.{asked_for, request_of, store_if_value, value_of};
 ghost use Rattle.cache_c.specs.Asked.{scalar_value};
 ghost use Rattle.cache_c.specs.Asked.{IsAnswered, IsDone, IsToldBy, IsValueBy, IsScalarBy};
-ghost use Rattle.cache_c.specs.Asked.{KeepsSeats, HasLetGo, IsBlockOf};
+ghost use Rattle.cache_c.specs.Asked.{KeepsSeats, HasLetGo, IsBlockOf, MayAsk};
 ghost use Rattle.cache_c.specs.Asked.{plain_answer};
 
 use crate::cache::Cache;
@@ -25,7 +26,7 @@ use crate::seat_words::SEATS;
 use crate::values::{BOOL, INT, NULL, STR, scalar_from};
 use apcu_model::StoreAnswer;
 use cache_core::{Look, Scalar};
-use counter_entry::{IncAnswer, cas, inc};
+use counter_entry::{IncAnswer, cas_in, inc_in};
 use seg_words::{HEAD_WORDS, words_in};
 
 /// What is asked of a cache.
@@ -46,6 +47,8 @@ pub struct Ask {
     /// Those of what a compare-and-swap sets, or how many bytes a string has at least for which
     /// the seat is taken.
     pub set: u64,
+    /// The hash of the key, as PHP computes it.
+    pub hash: u64,
 }
 
 /// What a cache answers.
@@ -184,7 +187,7 @@ impl Cache {
     /// One event: what is asked, its key, and the bytes of the value that is stored. What seats
     /// hold stands where it stood, but for the seat that a `HOLD` takes.
     pub(crate) fn ask(&mut self, ask: &Ask, key: &[u8], bytes: &[u8]) -> Answer
-        requires stand { StandsForCache self.old }
+        requires may { MayAsk self.old ask.now key.now }
         ensures stand { StandsForCache self.new }
         ensures answered { IsAnswered self.old self.new ask.now.t
             (asked_for ask.now key.now bytes.now) result }
@@ -193,15 +196,17 @@ impl Cache {
         if key.len() >= 4_294_967_296 || bytes.len() >= 4_294_967_296 {
             return plain(TOO_LONG);
         }
+        let slot = self.core.slot_of_hash(ask.hash);
         if ask.kind == HOLD {
-            return self.hold(key, ask.number, ask.set, ask.t);
+            return self.hold(key, slot, ask.number, ask.set, ask.t);
         }
-        self.answer(ask, key, bytes)
+        self.answer(ask, key, slot, bytes)
     }
 
-    // One event that takes no seat.
-    fn answer(&mut self, ask: &Ask, key: &[u8], bytes: &[u8]) -> Answer
+    // One event that takes no seat. Here and below `slot` is the key's.
+    fn answer(&mut self, ask: &Ask, key: &[u8], slot: u32, bytes: &[u8]) -> Answer
         requires short { length key.now < 2 ^ 32 }
+        requires slot { slot ≡ slot_of self.old.core.conf key.now }
         requires value { length bytes.now < 2 ^ 32 }
         requires other { ask.now.kind ≢ HOLD }
         requires stand { StandsForCache self.old }
@@ -214,13 +219,13 @@ impl Cache {
         let number = ask.number;
         // An answer without numbers is made once, behind all kinds of requests.
         let kind = match ask.kind {
-            LOOK => return self.look(key, t).0,
-            COUNT => return self.count(key, number, ttl, t),
-            STORE => self.store(key, ask.value, number, bytes, ttl, false, t),
-            ADD => self.store(key, ask.value, number, bytes, ttl, true, t),
-            EXISTS => self.exists(key, t),
-            DELETE => self.delete(key, t),
-            SWAP => self.swap(key, number, ask.set, t),
+            LOOK => return self.look(key, slot, t).0,
+            COUNT => return self.count(key, slot, number, ttl, t),
+            STORE => self.store(key, slot, ask.value, number, bytes, ttl, false, t),
+            ADD => self.store(key, slot, ask.value, number, bytes, ttl, true, t),
+            EXISTS => self.exists(key, slot, t),
+            DELETE => self.delete(key, slot, t),
+            SWAP => self.swap(key, slot, number, ask.set, t),
             CLEAR => self.clear(t),
             _ => BAD,
         };
@@ -239,6 +244,7 @@ impl Cache {
     fn store(
         &mut self,
         key: &[u8],
+        slot: u32,
         kind: u32,
         number: u64,
         bytes: &[u8],
@@ -247,6 +253,7 @@ impl Cache {
         t: u64,
     ) -> u32
         requires short { length key.now < 2 ^ 32 }
+        requires slot { slot ≡ slot_of self.old.core.conf key.now }
         requires value { length bytes.now < 2 ^ 32 }
         requires stand { StandsForCache self.old }
         ensures left { LeavesHeld self.old self.new }
@@ -255,14 +262,23 @@ impl Cache {
             (plain_answer result) }
     {
         if kind == STR {
-            return self.store_text(key, bytes, ttl, exclusive, t);
+            return self.store_text(key, slot, bytes, ttl, exclusive, t);
         }
-        self.store_scalar(key, kind, number, ttl, exclusive, t)
+        self.store_scalar(key, slot, kind, number, ttl, exclusive, t)
     }
 
     // The same of a string: its bytes go from the slice into the row.
-    fn store_text(&mut self, key: &[u8], bytes: &[u8], ttl: u32, exclusive: bool, t: u64) -> u32
+    fn store_text(
+        &mut self,
+        key: &[u8],
+        slot: u32,
+        bytes: &[u8],
+        ttl: u32,
+        exclusive: bool,
+        t: u64,
+    ) -> u32
         requires short { length key.now < 2 ^ 32 }
+        requires slot { slot ≡ slot_of self.old.core.conf key.now }
         requires value { length bytes.now < 2 ^ 32 }
         requires stand { StandsForCache self.old }
         ensures left { LeavesHeld self.old self.new }
@@ -272,7 +288,7 @@ impl Cache {
         self.begin();
         stored(
             self.core
-                .store_bytes(&mut self.words, key, bytes, ttl, exclusive, t),
+                .store_bytes_in(&mut self.words, key, slot, bytes, ttl, exclusive, t),
         )
     }
 
@@ -280,6 +296,7 @@ impl Cache {
     fn store_scalar(
         &mut self,
         key: &[u8],
+        slot: u32,
         kind: u32,
         number: u64,
         ttl: u32,
@@ -287,6 +304,7 @@ impl Cache {
         t: u64,
     ) -> u32
         requires short { length key.now < 2 ^ 32 }
+        requires slot { slot ≡ slot_of self.old.core.conf key.now }
         requires stand { StandsForCache self.old }
         ensures left { LeavesHeld self.old self.new }
         ensures answered { IsAnswered self.old self.new t
@@ -299,21 +317,22 @@ impl Cache {
         self.begin();
         let answer = self
             .core
-            .store(&mut self.words, key, &value, ttl, exclusive, t);
+            .store_in(&mut self.words, key, slot, &value, ttl, exclusive, t);
         stored(answer)
     }
 
     // Looks the key up, and counts it; and the place of the row that it finds, if that holds no
     // scalar, else 0.
-    fn look(&mut self, key: &[u8], t: u64) -> (Answer, u32)
+    fn look(&mut self, key: &[u8], slot: u32, t: u64) -> (Answer, u32)
         requires short { length key.now < 2 ^ 32 }
+        requires slot { slot ≡ slot_of self.old.core.conf key.now }
         requires stand { StandsForCache self.old }
         ensures left { LeavesHeld self.old self.new }
         ensures done { IsDone self.old self.new t (requests.Fetch key.now) result.0 }
         ensures block { 0 < result.1 → IsBlockOf self.new result.1 result.0 }
         ensures text { result.0.kind ≡ STR → 0 < result.1 }
     {
-        match self.core.look(&mut self.words, key, t) {
+        match self.core.look_in(&mut self.words, key, slot, t) {
             Look::Miss => (plain(ABSENT), 0),
             Look::Scalar(value) => (scalar(value), 0),
             Look::Hit(at) => (self.other(key, at), at),
@@ -322,15 +341,16 @@ impl Cache {
 
     // The same, and where it answers a string of so many bytes or more, the seat holds its row from
     // now on.
-    fn hold(&mut self, key: &[u8], seat: u64, least: u64, t: u64) -> Answer
+    fn hold(&mut self, key: &[u8], slot: u32, seat: u64, least: u64, t: u64) -> Answer
         requires short { length key.now < 2 ^ 32 }
+        requires slot { slot ≡ slot_of self.old.core.conf key.now }
         requires stand { StandsForCache self.old }
         ensures stand { StandsForCache self.new }
         ensures done { IsDone self.old self.new t (requests.Fetch key.now) result }
         ensures seats { (ask : Ask) → ask.kind ≡ HOLD → ask.number ≡ seat → ask.set ≡ least
             → KeepsSeats ask self.old self.new result }
     {
-        let (answer, at) = self.look(key, t);
+        let (answer, at) = self.look(key, slot, t);
         if !is_long(&answer, seat, least) {
             return answer;
         }
@@ -367,29 +387,32 @@ impl Cache {
     }
 
     // Whether a look-up finds the key.
-    fn exists(&mut self, key: &[u8], t: u64) -> u32
+    fn exists(&mut self, key: &[u8], slot: u32, t: u64) -> u32
         requires short { length key.now < 2 ^ 32 }
+        requires slot { slot ≡ slot_of self.old.core.conf key.now }
         requires stand { StandsForCache self.old }
         ensures left { LeavesHeld self.old self.new }
         ensures done { IsDone self.old self.new t (requests.Exists key.now) (plain_answer result) }
     {
-        flag(self.core.exists(&mut self.words, key, t))
+        flag(self.core.exists_in(&mut self.words, key, slot, t))
     }
 
     // Deletes the row of the key.
-    fn delete(&mut self, key: &[u8], t: u64) -> u32
+    fn delete(&mut self, key: &[u8], slot: u32, t: u64) -> u32
         requires short { length key.now < 2 ^ 32 }
+        requires slot { slot ≡ slot_of self.old.core.conf key.now }
         requires stand { StandsForCache self.old }
         ensures left { LeavesHeld self.old self.new }
         ensures done { IsDone self.old self.new t (requests.Delete key.now) (plain_answer result) }
     {
         self.begin();
-        flag(self.core.delete(&mut self.words, key, t))
+        flag(self.core.delete_in(&mut self.words, key, slot, t))
     }
 
     // Counts by the step.
-    fn count(&mut self, key: &[u8], step: u64, ttl: u32, t: u64) -> Answer
+    fn count(&mut self, key: &[u8], slot: u32, step: u64, ttl: u32, t: u64) -> Answer
         requires short { length key.now < 2 ^ 32 }
+        requires slot { slot ≡ slot_of self.old.core.conf key.now }
         requires stand { StandsForCache self.old }
         ensures left { LeavesHeld self.old self.new }
         ensures done { IsDone self.old self.new t
@@ -397,11 +420,12 @@ impl Cache {
     {
         let step = step.cast_signed();
         self.begin();
-        let answer = inc(
+        let answer = inc_in(
             self.alloc,
             &mut self.core,
             &mut self.words,
             key,
+            slot,
             step,
             ttl,
             t,
@@ -410,8 +434,9 @@ impl Cache {
     }
 
     // Sets the integer where it is the expected one.
-    fn swap(&mut self, key: &[u8], expect: u64, set: u64, t: u64) -> u32
+    fn swap(&mut self, key: &[u8], slot: u32, expect: u64, set: u64, t: u64) -> u32
         requires short { length key.now < 2 ^ 32 }
+        requires slot { slot ≡ slot_of self.old.core.conf key.now }
         requires stand { StandsForCache self.old }
         ensures left { LeavesHeld self.old self.new }
         ensures done { IsDone self.old self.new t
@@ -421,7 +446,7 @@ impl Cache {
         let expect = expect.cast_signed();
         let set = set.cast_signed();
         self.begin();
-        flag(cas(&mut self.core, &mut self.words, key, expect, set, t))
+        flag(cas_in(&mut self.core, &mut self.words, key, slot, expect, set, t))
     }
 
     // Drops all rows.

@@ -10,6 +10,7 @@ mod making;
 mod rows;
 mod scalars;
 mod seat_words;
+mod shared;
 mod values;
 
 ghost use Rattle.std.specs.Prelude.{◌≡◌, ℕ, List};
@@ -17,12 +18,14 @@ ghost use denote.Param.{layout};
 ghost use prog.Memory.{size};
 ghost use Rattle.cache_c.specs.contracts.cache.Cache.{the_row};
 ghost use types.Logic.{sem};
+ghost use Rattle.php_graph.specs.Numbers.{hash_of};
 ghost use base.Fml.{fsep};
 ghost use Rattle.cache_c.specs.declared.cache.Cache.{Cache};
-ghost use Rattle.cache_c.specs.Memory.{room, stands_at, bytes_at};
+ghost use Rattle.cache_c.specs.Memory.{room, stands_at, asks_at, bytes_at};
 ghost use Rattle.cache_c.specs.Memory.{has_asked, has_copied, has_let_go, is_given};
 ghost use Rattle.cache_c.specs.Memory.{has_counted, has_found, has_listed, has_gaps};
-ghost use Rattle.cache_c.specs.Memory.{rows_at, gaps_at};
+ghost use Rattle.cache_c.specs.Memory.{rows_at, gaps_at, counts_at, has_used, has_view};
+ghost use Rattle.cache_c.specs.Shared.{IsShared, IsFoundFor};
 ghost use Rattle.cache_c.specs.declared.counts.Gap.{Gap};
 ghost use Rattle.cache_c.specs.declared.rows.ToldRow.{ToldRow};
 
@@ -31,7 +34,10 @@ pub use cache::Cache;
 pub use counts::{Gap, ToldCounts};
 pub use making::Shape;
 use making::{MADE, made};
+use php_graph::hash_of;
 pub use rows::ToldRow;
+use shared::find_shared;
+pub use shared::{Found, View};
 use std::alloc::Global;
 
 /// How many bytes a cache takes beside its words, aligned as 16.
@@ -57,7 +63,15 @@ pub unsafe extern "C" fn cache_new_unchecked(alloc: Global, shape: &Shape, at: *
     }
 }
 
-/// Asks the cache at `at` for one event.
+/// The hash of a key, as PHP computes it.
+#[unsafe(no_mangle)]
+pub extern "C" fn cache_hash_unchecked(key: &[u8]) -> u64
+    ensures { result ≡ hash_of key.now }
+{
+    hash_of(key)
+}
+
+/// Asks the cache at `at` for one event. The request has the hash of its key.
 #[unsafe(no_mangle)]
 pub unsafe extern "C" fn cache_ask_unchecked(
     at: *mut u8,
@@ -66,7 +80,7 @@ pub unsafe extern "C" fn cache_ask_unchecked(
     bytes: &[u8],
 ) -> Answer
     ghost cache: { Cache }
-    requires* { sem 𝓛 (stands_at at cache) }
+    requires* { sem 𝓛 (asks_at at cache ask.now key.now) }
     ensures* { sem 𝓛 (has_asked cache at ask.now key.now bytes.now result) }
 {
     (&mut *at.cast::<Cache>()).ask(ask, key, bytes)
@@ -151,4 +165,49 @@ pub unsafe extern "C" fn cache_list_gaps_unchecked(
     ensures* { sem 𝓛 (has_gaps old.0 old.1 at from out room result) }
 {
     (&mut *at.cast::<Cache>()).list_gaps(from, std::slice::from_raw_parts_mut(out, room))
+}
+
+/// What a look-up needs to know of the cache at `at` beside its words. Nothing changes.
+#[unsafe(no_mangle)]
+pub unsafe extern "C" fn cache_get_view_unchecked(at: *mut u8) -> View
+    ghost cache: { Cache }
+    requires* { sem 𝓛 (stands_at at cache) }
+    ensures* { sem 𝓛 (has_view cache at result) }
+{
+    (&mut *at.cast::<Cache>()).view()
+}
+
+/// Looks a key up that has this hash, at the moment `t`, in the words of a cache, of which `words`
+/// are the first and the others are 0. It writes nothing, so any number of callers may look up at
+/// once.
+#[unsafe(no_mangle)]
+pub extern "C" fn cache_find_shared_unchecked(
+    view: &View,
+    words: &[u64],
+    key: &[u8],
+    hash: u64,
+    t: u64,
+) -> Found
+    requires shared { (cache : Cache) × IsShared cache view.now words.now }
+    requires hash { hash ≡ hash_of key.now }
+    ensures found { (cache : Cache) → IsShared cache view.now words.now
+        → IsFoundFor cache key.now t result }
+{
+    find_shared(view, words, key, hash, t)
+}
+
+/// Counts look-ups of the moment `t` that `cache_find_shared` answered: those that found the rows
+/// at these places, and so many that found none. It answers true.
+#[unsafe(no_mangle)]
+pub unsafe extern "C" fn cache_count_unchecked(
+    at: *mut u8,
+    places: &[u32],
+    misses: u64,
+    t: u64,
+) -> bool
+    ghost cache: { Cache }
+    requires* { sem 𝓛 (counts_at at cache places.now) }
+    ensures* { sem 𝓛 (has_used cache at places.now misses t result) }
+{
+    (&mut *at.cast::<Cache>()).count_shared(places, misses, t)
 }

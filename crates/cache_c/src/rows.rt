@@ -2,10 +2,10 @@
 
 ghost use Rattle.std.specs.Prelude.{◌≡◌, ℕ, ◌+◌, ◌<◌, ◌^◌, true, length, drop, List, None};
 ghost use Rattle.php_graph.specs.declared.kind.Kind.{Kind};
+ghost use Rattle.seg_words.specs.Kept.{Kept};
 ghost use Rattle.seg_words.specs.Windows.{nothing_aside};
 ghost use Rattle.value_image.specs.Texts.{IsToldImage};
 ghost use Rattle.apcu_model.specs.Cache.{Row};
-ghost use Rattle.apcu_model.specs.SlotOrder.{slot_of};
 ghost use Rattle.entry_slots.specs.Lists.{has_place, first_place, FollowsIn};
 ghost use Rattle.entry_slots.specs.Entries.{IsListed, listed, FollowsInChain};
 ghost use Rattle.entry_slots.specs.Standing.{entries};
@@ -20,8 +20,7 @@ use crate::cache::Cache;
 use crate::scalars::read_scalar;
 use crate::values::STR;
 use entry_slots::standing_laws;
-use php_graph::hash_of;
-use seg_words::HEAD_WORDS;
+use seg_words::{HEAD_WORDS, WordsIn};
 use value_image::{bytes_are_packed, string_len};
 
 /// A row of a cache. Moments are in seconds, places and sizes in words.
@@ -85,20 +84,11 @@ impl Cache {
         if key.len() >= 4_294_967_296 {
             return no_row();
         }
-        let Some((at, _value)) = self.core.peek(&mut self.words.late, key, t) else {
+        let slot = self.core.slot_of_key(key);
+        let Some((at, _value)) = self.core.peek_in(&mut self.words.late, key, slot, t) else {
             return no_row();
         };
-        let slot = self.slot_of(key);
         self.row(slot, at)
-    }
-
-    // The slot of a key.
-    fn slot_of(&self, key: &[u8]) -> u32
-        requires stand { StandsForCache self.now }
-        ensures slot { result ≡ slot_of (cache_of self.now.core).conf key.now }
-    {
-        let slots = self.core.conf().slots;
-        (hash_of(key) % u64::from(slots)) as u32
     }
 
     /// Fills the slice with the rows of a list, in their order and after the first `skip`: those of
@@ -203,10 +193,7 @@ impl Cache {
             → IsToldImage (cache_words self.old) nothing_aside.windows image g
             → IsValueBy (cache_words self.new) g result }
     {
-        match read_scalar(&mut self.words.late, image) {
-            Some(value) => scalar(value),
-            None => self.text(image),
-        }
+        value_at(&mut self.words.late, image)
     }
 
     // The same of a value that is no scalar.
@@ -219,14 +206,42 @@ impl Cache {
             → scalar_of g ≡ None → IsValueBy (cache_words self.new) g result }
         ensures place { result.kind ≡ STR → result.place ≡ image + 1 }
     {
-        match string_len(&mut self.words.late, image) {
-            Some(len) => Answer {
-                kind: STR,
-                place: image + 1,
-                number: 0,
-                len: u64::from(len),
-            },
-            None => plain(OTHER),
-        }
+        text_at(&mut self.words.late, image)
+    }
+}
+
+// The value of which the image stands at a place.
+pub(crate) fn value_at<W: WordsIn>(from: &mut W, image: u32) -> Answer
+    requires image { (g : List Kind)
+        × IsToldImage (W.words from.old) (W.aside from.old).windows image g }
+    ensures told { (g : List Kind)
+        → IsToldImage (W.words from.old) (W.aside from.old).windows image g
+        → IsValueBy (W.words from.old) g result }
+    ensures kept { Kept W.WordsIn from.old from.new }
+{
+    match read_scalar(from, image) {
+        Some(value) => scalar(value),
+        None => text_at(from, image),
+    }
+}
+
+// The same of a value that is no scalar.
+fn text_at<W: WordsIn>(from: &mut W, image: u32) -> Answer
+    requires image { (g : List Kind)
+        × IsToldImage (W.words from.old) (W.aside from.old).windows image g }
+    ensures told { (g : List Kind)
+        → IsToldImage (W.words from.old) (W.aside from.old).windows image g
+        → scalar_of g ≡ None → IsValueBy (W.words from.old) g result }
+    ensures place { result.kind ≡ STR → result.place ≡ image + 1 }
+    ensures kept { Kept W.WordsIn from.old from.new }
+{
+    match string_len(from, image) {
+        Some(len) => Answer {
+            kind: STR,
+            place: image + 1,
+            number: 0,
+            len: u64::from(len),
+        },
+        None => plain(OTHER),
     }
 }

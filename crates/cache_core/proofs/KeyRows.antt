@@ -19,6 +19,7 @@ use Rattle.entry_slots.specs.Standing.{entries}
 use Rattle.cache_core.specs.declared.cache.Core.{Core}
 use Rattle.cache_core.specs.declared.cache_counts.CacheCounts.{CacheCounts}
 use Rattle.cache_core.specs.CoreCache.{cache_of}
+use Rattle.cache_core.specs.Uses.{used_at}
 use Rattle.cache_core.specs.Laws.{CacheLaws}
 use Rattle.cache_core.proofs.CoreCacheLemmas.{cache_made, whole_made}
 use Rattle.seg_words.specs.Members.{counted_some, count-cons, none_counted, Contains-first, Contains-later, Contains-cases, Contains-filter, Contains-kept}
@@ -114,9 +115,6 @@ core_cleared laws old new {before} {after} t whole drops conf cache_counts later
     (same, whole_made new gone e same)
 
 -- a core's cache once the row at a place was used
-abbrev pub used_at : ℕ → ℕ → Cache → Cache
-used_at at t c = record c { rows = map {A = Row} {B = Row} (touched_row at t) c.rows; hits = risen c.hits }
-
 pub core_used : (old new : Core) (at t : ℕ) → entries old.slots ≡ entries_of (cache_of old) → entries new.slots ≡ touched_in at t (entries old.slots) → new.conf ≡ old.conf → new.cache_counts ≡ record old.cache_counts { hits = risen old.cache_counts.hits }
     → (cache_of new ≡ used_at at t (cache_of old)) × (entries new.slots ≡ entries_of (cache_of new))
 core_used old new at t whole now conf cache_counts =

@@ -10,3 +10,5 @@ pub mod AddedRows
 pub mod Tags
 pub mod SpotsAfterRoom
 pub mod SaturatingCounts
+pub mod Finders
+pub mod Fetches

@@ -29,3 +29,9 @@ pub record CoreStands (core : Core) (words : List ℕ) (aside : Aside) : Type 0 
 -- so do those of a segment
 abbrev pub CacheStands : {X R : Type 0} → Ghosts X R → Core → X → Type 0
 CacheStands g core seg = CoreStands core (g.words seg) (g.aside seg)
+
+-- so do some words
+pub record IsStandingCore (core : Core) : Type 0 where
+  pub words : List ℕ
+  pub aside : Aside
+  pub stand : CoreStands core words aside

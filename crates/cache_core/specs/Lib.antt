@@ -8,3 +8,5 @@ pub mod Storing
 pub mod Integers
 pub mod Spots
 pub mod Counting
+pub mod Finding
+pub mod Uses

@@ -1,17 +1,20 @@
 //! The cache over the words of a segment.
 
-ghost use Rattle.std.specs.Prelude.{◌≡◌, ℕ, ◌*◌, ◌≤◌, false, length, slice_index};
+ghost use Rattle.std.specs.Prelude.{◌≡◌, ℕ, ◌*◌, ◌≤◌, false, List, length, slice_index};
 ghost use Rattle.seg_words.specs.Kept.{KeptBeside};
 ghost use Rattle.seg_words.specs.Windows.{is_named};
 ghost use Rattle.std.specs.Borrow.{sem};
+ghost use Rattle.php_graph.specs.Numbers.{hash_of};
 ghost use Rattle.apcu_model.specs.Cache.{empty_cache, counts_of};
+ghost use Rattle.apcu_model.specs.SlotOrder.{slot_of};
 ghost use Rattle.entry_slots.specs.Standing.{IsStanding};
 ghost use Rattle.apcu_model.specs.Conf.{IsUsable};
 
 use crate::cache_counts::CacheCounts;
 use apcu_model::{Conf, Counts};
-use entry_slots::EntrySlots;
+use entry_slots::{EntrySlots, Finder};
 use max_tree::MaxRow;
+use php_graph::hash_of;
 use seg_words::{Segment, WordsIn};
 
 /// The cache over the words of a segment. It keeps what stands beside them: the entries, the shape
@@ -37,7 +40,7 @@ impl Drop for Core {
 }
 
 impl Core {
-    ghost use Rattle.cache_core.specs.CoreCache.{cache_of, CacheStands};
+    ghost use Rattle.cache_core.specs.CoreCache.{cache_of, CacheStands, IsStandingCore};
     ghost use Rattle.cache_core.specs.LentEntries.{LendsSlots};
 
     /// Makes a cache of this shape without rows. No window may be open.
@@ -72,6 +75,32 @@ impl Core {
             expunges: self.cache_counts.expunges,
             entries: u64::from(self.slots.rows()),
         }
+    }
+
+    /// The slot of a key. It computes the key's hash, so ask once, or `slot_of_hash` if the hash is
+    /// known.
+    pub fn slot_of_key(&self, key: &[u8]) -> u32
+        requires stand { IsStandingCore self.now }
+        ensures slot { result ≡ slot_of self.now.conf key.now }
+    {
+        self.slot_of_hash(hash_of(key))
+    }
+
+    /// The slot of a key that has this hash.
+    pub fn slot_of_hash(&self, hash: u64) -> u32
+        requires stand { IsStandingCore self.now }
+        ensures slot { (key : List ℕ) → hash ≡ hash_of key → result ≡ slot_of self.now.conf key }
+    {
+        self.slots.slot_of_hash(hash)
+    }
+
+    /// What a look-up needs to know beside the words. It is good until a row comes or goes.
+    pub fn finder(&self) -> Finder
+        requires stand { IsStandingCore self.now }
+        ensures slots { result.slots ≡ self.now.conf.slots }
+        ensures rows { result.rows ≡ length (cache_of self.now).rows }
+    {
+        self.slots.finder()
     }
 
     /// Lends the entries, for walks over chains and rows, as those of `cache_info` and `apcu_iter`.

@@ -76,7 +76,7 @@ impl CacheCounts {
     }
 
     // So many look-ups found none.
-    pub(crate) fn after_misses(self, n: u32) -> CacheCounts
+    pub(crate) fn after_misses(self, n: u64) -> CacheCounts
         ensures { result ≡ record self { misses = risen_by n self.misses } }
     {
         CacheCounts {
@@ -87,8 +87,8 @@ impl CacheCounts {
 }
 
 // The count, so many higher.
-fn risen(count: u64, n: u32) -> u64
+fn risen(count: u64, n: u64) -> u64
     ensures { result ≡ risen_by n count }
 {
-    count.saturating_add(u64::from(n))
+    count.saturating_add(n)
 }

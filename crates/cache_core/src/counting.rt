@@ -1,6 +1,7 @@
 //! A look-up in two steps: what it finds is copied without a change, and counted later.
 
 ghost use Rattle.std.specs.Prelude.{◌≡◌, ℕ, ◌<◌, ◌^◌, List, true, length, option_map, Some, IfOk};
+ghost use Rattle.std.specs.Prelude.{slice_index};
 ghost use Rattle.seg_words.specs.Kept.{Kept, KeptBeside};
 ghost use Rattle.apcu_model.specs.Cache.{Row};
 ghost use Rattle.apcu_model.specs.Expiry.{live_row};
@@ -9,6 +10,7 @@ ghost use Rattle.entry_slots.specs.Lists.{has_place};
 ghost use Rattle.cache_core.specs.CoreCache.{cache_of, CacheStands};
 ghost use Rattle.cache_core.specs.Events.{IsStep};
 ghost use Rattle.cache_core.specs.Counting.{with_misses};
+ghost use Rattle.cache_core.specs.Uses.{fetched, used_at, AreFoundAt, AreMissed};
 
 use crate::cache::Core;
 use entry_slots::standing_laws;
@@ -35,7 +37,8 @@ impl Core {
             (live_row key.now t (cache_of self.now))) }
         ensures kept { Kept S.WordsIn seg.old seg.new }
     {
-        let Some(at) = self.find_live(seg, key, t) else {
+        let slot = self.slot_of_key(key);
+        let Some(at) = self.find_live(seg, key, slot, t) else {
             return Ok(None);
         };
         let image = self.slots.image_at(seg, at, key.len() as u32);
@@ -55,6 +58,7 @@ impl Core {
         ensures cache { (key : List ℕ) (seen : ℕ) (row : Row)
             → live_row key seen (cache_of self.old) ≡ Some row → row.place ≡ at
             → cache_of self.new ≡ looked_up key t (Some row) (cache_of self.old) }
+        ensures used { cache_of self.new ≡ used_at at t (cache_of self.old) }
         ensures step { IsStep S.WordsIn self.old self.new seg.old seg.new }
         ensures beside { KeptBeside S.WordsIn seg.old seg.new }
     {
@@ -65,10 +69,33 @@ impl Core {
 
     /// Counts so many look-ups that found no row. The count of misses stays at its last number once
     /// there.
-    pub fn count_misses(&mut self, n: u32)
+    pub fn count_misses(&mut self, n: u64)
         ensures cache { cache_of self.new ≡ with_misses n (cache_of self.old) }
         ensures slots { self.new.slots ≡ self.old.slots }
     {
         self.cache_counts = self.cache_counts.after_misses(n);
+    }
+
+    /// Counts look-ups of the moment `t`, in seconds, that were answered before: for each of these
+    /// places a hit and a use of its row, and so many misses.
+    ///
+    /// If look-ups of some keys find the rows at these places, and those of as many others as there
+    /// are misses find none, the cache is the one that fetches of all these keys leave, one after
+    /// the other.
+    pub fn count_uses<S: Segment>(&mut self, seg: &mut S, places: &[u32], misses: u64, t: u64)
+        requires stand { CacheStands S.WordsIn self.old seg.old }
+        requires there { (i : ℕ) → i < length places.now
+            → has_place (slice_index places.now i) (cache_of self.old).rows ≡ true }
+        ensures counted { (keys missed : List (List ℕ))
+            → AreFoundAt keys t (cache_of self.old) places.now
+            → AreMissed missed t (cache_of self.old) → length missed ≡ misses
+            → cache_of self.new ≡ fetched missed t (fetched keys t (cache_of self.old)) }
+        ensures step { IsStep S.WordsIn self.old self.new seg.old seg.new }
+        ensures beside { KeptBeside S.WordsIn seg.old seg.new }
+    {
+        for i in 0..places.len() {
+            self.count_hit(seg, places[i], t);
+        }
+        self.count_misses(misses);
     }
 }

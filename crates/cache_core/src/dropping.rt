@@ -3,6 +3,7 @@
 ghost use Rattle.std.specs.Prelude.{◌≡◌, ◌<◌, ◌^◌, true, false, length};
 ghost use Rattle.apcu_model.specs.declared.request.Request.TheVariants.{Delete, Clear};
 ghost use Rattle.apcu_model.specs.declared.request.Reply.TheVariants.{Flag};
+ghost use Rattle.apcu_model.specs.SlotOrder.{slot_of};
 ghost use Rattle.cache_core.specs.Events.{MayDrop, Does, IsUnchanged};
 
 use crate::cache::Core;
@@ -21,8 +22,20 @@ impl Core {
             (Delete key.now) (Flag result) }
         ensures none { result ≡ false → IsUnchanged S.WordsIn self.old self.new seg.old seg.new }
     {
+        let slot = self.slot_of_key(key);
+        self.delete_in(seg, key, slot, t)
+    }
+
+    /// The same; `slot` is the key's.
+    pub fn delete_in<S: Segment>(&mut self, seg: &mut S, key: &[u8], slot: u32, t: u64) -> bool
+        requires short { length key.now < 2 ^ 32 }
+        requires slot { slot ≡ slot_of self.old.conf key.now }
+        requires ready { MayDrop S.WordsIn self.old seg.old }
+        ensures does { Does S.WordsIn self.old self.new seg.old seg.new t
+            (Delete key.now) (Flag result) }
+        ensures none { result ≡ false → IsUnchanged S.WordsIn self.old self.new seg.old seg.new }
+    {
         lower_laws();
-        let slot = self.slots.slot_of_key(key);
         let Some(spot) = self.find_spot(seg, key, slot, t) else {
             return false;
         };

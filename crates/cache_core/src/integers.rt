@@ -6,6 +6,7 @@ ghost use Rattle.seg_words.specs.Windows.{is_named};
 ghost use Rattle.apcu_model.specs.Cache.{Row};
 ghost use Rattle.apcu_model.specs.Counters.{integer_set};
 ghost use Rattle.apcu_model.specs.Expiry.{live_row};
+ghost use Rattle.apcu_model.specs.SlotOrder.{slot_of};
 ghost use Rattle.entry_slots.specs.Entries.{HoldsInt};
 ghost use Rattle.entry_slots.specs.Standing.{entries};
 ghost use Rattle.cache_core.specs.CoreCache.{cache_of, CacheStands};
@@ -21,14 +22,33 @@ impl Core {
     /// The place of the row that a look-up of the key at the moment `t`, in seconds, finds, and its
     /// value where that is null, a truth value or an integer. Nothing is counted, and the row is
     /// not used.
-    pub fn peek<S: Segment>(&self, seg: &mut S, key: &[u8], t: u64) -> Option<(u32, Option<Scalar>)>
+    pub fn peek<S: WordsIn>(&self, seg: &mut S, key: &[u8], t: u64) -> Option<(u32, Option<Scalar>)>
         requires short { length key.now < 2 ^ 32 }
         requires stand { CacheStands S.WordsIn self.now seg.old }
         ensures found { result ≡ option_map (λ (row : Row). (row.place, scalar_of row.graph))
             (live_row key.now t (cache_of self.now)) }
         ensures kept { Kept S.WordsIn seg.old seg.new }
     {
-        let Some(at) = self.find_live(seg, key, t) else {
+        let slot = self.slot_of_key(key);
+        self.peek_in(seg, key, slot, t)
+    }
+
+    /// The same; `slot` is the key's.
+    pub fn peek_in<S: WordsIn>(
+        &self,
+        seg: &mut S,
+        key: &[u8],
+        slot: u32,
+        t: u64,
+    ) -> Option<(u32, Option<Scalar>)>
+        requires short { length key.now < 2 ^ 32 }
+        requires slot { slot ≡ slot_of self.now.conf key.now }
+        requires stand { CacheStands S.WordsIn self.now seg.old }
+        ensures found { result ≡ option_map (λ (row : Row). (row.place, scalar_of row.graph))
+            (live_row key.now t (cache_of self.now)) }
+        ensures kept { Kept S.WordsIn seg.old seg.new }
+    {
+        let Some(at) = self.find_live(seg, key, slot, t) else {
             return None;
         };
         Some((at, self.scalar_at(seg, key, at)))

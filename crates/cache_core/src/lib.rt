@@ -10,12 +10,16 @@ mod cache;
 mod cache_counts;
 mod counting;
 mod dropping;
+mod finding;
 mod integers;
 mod looking;
 mod lower;
 mod placing;
+mod reads;
 mod scalar;
 mod storing;
 
 pub use cache::Core;
+pub use finding::find_live_in;
+pub use reads::{reads_commute, reads_see_one_cache};
 pub use scalar::{Look, Scalar, read_scalar};

@@ -15,6 +15,7 @@ ghost use Rattle.cache_core.specs.Events.{Does};
 ghost use Rattle.cache_core.specs.Looking.{look_at, look_of, scalar_of, IsFound, IsRowOf};
 
 use crate::cache::Core;
+use crate::finding::find_live_in;
 use crate::scalar::{Look, Scalar, read_scalar};
 use entry_slots::{Spot, standing_laws};
 use seg_words::{Segment, WordsIn};
@@ -30,27 +31,27 @@ fn answer(at: u32, scalar: Option<Scalar>) -> Look
 }
 
 impl Core {
-    // The place of the row that a look-up of the key finds.
-    pub(crate) fn find_live<S: Segment>(&self, seg: &mut S, key: &[u8], t: u64) -> Option<u32>
+    // The place of the row that a look-up of the key finds; `slot` is the key's.
+    pub(crate) fn find_live<S: WordsIn>(
+        &self,
+        seg: &mut S,
+        key: &[u8],
+        slot: u32,
+        t: u64,
+    ) -> Option<u32>
         requires short { length key.now < 2 ^ 32 }
+        requires slot { slot ≡ slot_of self.now.conf key.now }
         requires stand { CacheStands S.WordsIn self.now seg.old }
         ensures found { IfSome result (λ at. IsFound key.now t (cache_of self.now) at) }
         ensures none { IfNone result (live_row key.now t (cache_of self.now) ≡ None) }
         ensures kept { Kept S.WordsIn seg.old seg.new }
     {
-        standing_laws();
-        let Some(at) = self.slots.find(seg, key) else {
-            return None;
-        };
-        if self.slots.is_hard_expired(seg, at, t) {
-            return None;
-        }
-        Some(at)
+        find_live_in(self.finder(), seg, key, slot, t)
     }
 
     // The value of the key's row, which is at `at`, if it is null, a truth value or an integer. No
     // other word of the row is read.
-    pub(crate) fn scalar_at<S: Segment>(&self, seg: &mut S, key: &[u8], at: u32) -> Option<Scalar>
+    pub(crate) fn scalar_at<S: WordsIn>(&self, seg: &mut S, key: &[u8], at: u32) -> Option<Scalar>
         requires short { length key.now < 2 ^ 32 }
         requires stand { CacheStands S.WordsIn self.now seg.old }
         requires there { (row : Row) × IsRowOf (cache_of self.now) key.now at row }
@@ -64,7 +65,7 @@ impl Core {
 
     // Where the row of the key stands or a new one would, and whether a look-up finds it; `slot` is
     // the key's.
-    fn seek_row<S: Segment>(&self, seg: &mut S, key: &[u8], slot: u32, t: u64) -> (Spot, bool)
+    fn seek_row<S: WordsIn>(&self, seg: &mut S, key: &[u8], slot: u32, t: u64) -> (Spot, bool)
         requires short { length key.now < 2 ^ 32 }
         requires slot { slot ≡ slot_of self.now.conf key.now }
         requires stand { CacheStands S.WordsIn self.now seg.old }
@@ -86,7 +87,7 @@ impl Core {
     }
 
     // Where the row stands that a look-up of the key finds; `slot` is the key's.
-    pub(crate) fn find_spot<S: Segment>(
+    pub(crate) fn find_spot<S: WordsIn>(
         &self,
         seg: &mut S,
         key: &[u8],
@@ -107,7 +108,7 @@ impl Core {
     }
 
     // Where a new row of the key would stand, unless a look-up finds one; `slot` is the key's.
-    pub(crate) fn new_spot<S: Segment>(
+    pub(crate) fn new_spot<S: WordsIn>(
         &self,
         seg: &mut S,
         key: &[u8],
@@ -128,13 +129,25 @@ impl Core {
     }
 
     /// Whether a look-up of the key at the moment `t`, in seconds, finds a row. Nothing is counted.
-    pub fn exists<S: Segment>(&self, seg: &mut S, key: &[u8], t: u64) -> bool
+    pub fn exists<S: WordsIn>(&self, seg: &mut S, key: &[u8], t: u64) -> bool
         requires short { length key.now < 2 ^ 32 }
         requires stand { CacheStands S.WordsIn self.now seg.old }
         ensures found { result ≡ is_some (live_row key.now t (cache_of self.now)) }
         ensures kept { Kept S.WordsIn seg.old seg.new }
     {
-        self.find_live(seg, key, t).is_some()
+        let slot = self.slot_of_key(key);
+        self.exists_in(seg, key, slot, t)
+    }
+
+    /// The same; `slot` is the key's.
+    pub fn exists_in<S: WordsIn>(&self, seg: &mut S, key: &[u8], slot: u32, t: u64) -> bool
+        requires short { length key.now < 2 ^ 32 }
+        requires slot { slot ≡ slot_of self.now.conf key.now }
+        requires stand { CacheStands S.WordsIn self.now seg.old }
+        ensures found { result ≡ is_some (live_row key.now t (cache_of self.now)) }
+        ensures kept { Kept S.WordsIn seg.old seg.new }
+    {
+        self.find_live(seg, key, slot, t).is_some()
     }
 
     /// Looks a key up at the moment `t`: a row that is found is used and counts a hit, else a miss
@@ -148,8 +161,22 @@ impl Core {
             (Fetch key.now) (found_in (live_row key.now t (cache_of self.old))) }
         ensures beside { KeptBeside S.WordsIn seg.old seg.new }
     {
+        let slot = self.slot_of_key(key);
+        self.look_in(seg, key, slot, t)
+    }
+
+    /// The same; `slot` is the key's.
+    pub fn look_in<S: Segment>(&mut self, seg: &mut S, key: &[u8], slot: u32, t: u64) -> Look
+        requires short { length key.now < 2 ^ 32 }
+        requires slot { slot ≡ slot_of self.old.conf key.now }
+        requires stand { CacheStands S.WordsIn self.old seg.old }
+        ensures look { result ≡ look_of (live_row key.now t (cache_of self.old)) }
+        ensures does { Does S.WordsIn self.old self.new seg.old seg.new t
+            (Fetch key.now) (found_in (live_row key.now t (cache_of self.old))) }
+        ensures beside { KeptBeside S.WordsIn seg.old seg.new }
+    {
         standing_laws();
-        let Some(at) = self.find_live(seg, key, t) else {
+        let Some(at) = self.find_live(seg, key, slot, t) else {
             self.cache_counts = self.cache_counts.after_miss();
             return Look::Miss;
         };

@@ -55,8 +55,34 @@ impl Core {
             → IsUnchanged S.WordsIn self.old self.new seg.old seg.new }
         ensures next { MayInsert S.WordsIn (makes_room result) self.new seg.new }
     {
+        let slot = self.slot_of_key(key);
+        self.store_in(seg, key, slot, g, ttl, exclusive, t)
+    }
+
+    /// The same; `slot` is the key's.
+    pub fn store_in<S: Segment>(
+        &mut self,
+        seg: &mut S,
+        key: &[u8],
+        slot: u32,
+        g: &Graph,
+        ttl: u32,
+        exclusive: bool,
+        t: u64,
+    ) -> StoreAnswer
+        requires short { length key.now < 2 ^ 32 }
+        requires slot { slot ≡ slot_of self.old.conf key.now }
+        requires ready { MayInsert S.WordsIn false self.old seg.old }
+        ensures answer { IsBy (S.aside seg.new) (λ held. (inserted held
+            key.now g.now ttl exclusive t (cache_of self.old)).answer) result }
+        ensures does { Does S.WordsIn self.old self.new seg.old seg.new t
+            (requests.Store key.now g.now ttl exclusive) (Flag (is_stored result)) }
+        ensures early { makes_room result ≡ false
+            → IsUnchanged S.WordsIn self.old self.new seg.old seg.new }
+        ensures next { MayInsert S.WordsIn (makes_room result) self.new seg.new }
+    {
         let _places = g.places();
-        self.store_content(seg, key, &Content::Graph(g), ttl, exclusive, t)
+        self.store_content(seg, key, slot, &Content::Graph(g), ttl, exclusive, t)
     }
 
     /// Stores a byte string as `store` does the graph that has it as its only place. No graph is
@@ -82,21 +108,52 @@ impl Core {
             → IsUnchanged S.WordsIn self.old self.new seg.old seg.new }
         ensures next { MayInsert S.WordsIn (makes_room result) self.new seg.new }
     {
-        let content = text_content(bytes);
-        self.store_content(seg, key, &content, ttl, exclusive, t)
+        let slot = self.slot_of_key(key);
+        self.store_bytes_in(seg, key, slot, bytes, ttl, exclusive, t)
     }
 
-    // Stores a graph, or a byte string as a graph. It is the first insertion of its event.
+    /// The same; `slot` is the key's.
+    pub fn store_bytes_in<S: Segment>(
+        &mut self,
+        seg: &mut S,
+        key: &[u8],
+        slot: u32,
+        bytes: &[u8],
+        ttl: u32,
+        exclusive: bool,
+        t: u64,
+    ) -> StoreAnswer
+        requires short { length key.now < 2 ^ 32 }
+        requires few { length bytes.now < 2 ^ 32 }
+        requires slot { slot ≡ slot_of self.old.conf key.now }
+        requires ready { MayInsert S.WordsIn false self.old seg.old }
+        ensures answer { IsBy (S.aside seg.new) (λ held. (inserted held
+            key.now (Str bytes.now ∷ []) ttl exclusive t (cache_of self.old)).answer) result }
+        ensures does { Does S.WordsIn self.old self.new seg.old seg.new t
+            (requests.Store key.now (Str bytes.now ∷ []) ttl exclusive)
+            (Flag (is_stored result)) }
+        ensures early { makes_room result ≡ false
+            → IsUnchanged S.WordsIn self.old self.new seg.old seg.new }
+        ensures next { MayInsert S.WordsIn (makes_room result) self.new seg.new }
+    {
+        let content = text_content(bytes);
+        self.store_content(seg, key, slot, &content, ttl, exclusive, t)
+    }
+
+    // Stores a graph, or a byte string as a graph; `slot` is the key's. It is the first insertion of
+    // its event.
     fn store_content<S: Segment>(
         &mut self,
         seg: &mut S,
         key: &[u8],
+        slot: u32,
         content: &Content<'_>,
         ttl: u32,
         exclusive: bool,
         t: u64,
     ) -> StoreAnswer
         requires short { length key.now < 2 ^ 32 }
+        requires slot { slot ≡ slot_of self.old.conf key.now }
         requires graph { IsGraph (graph_of content.now) }
         requires ready { MayInsert S.WordsIn false self.old seg.old }
         ensures answer { IsBy (S.aside seg.new) (λ held. (inserted held
@@ -109,7 +166,6 @@ impl Core {
         ensures next { MayInsert S.WordsIn (makes_room result) self.new seg.new }
     {
         lower_laws();
-        let slot = self.slots.slot_of_key(key);
         match self.seek_new(seg, key, slot, content, exclusive, t) {
             Err(answer) => answer,
             Ok(spot) => {
@@ -144,7 +200,7 @@ impl Core {
         lower_laws();
         let _places = g.places();
         let content = Content::Graph(g);
-        let slot = self.slots.slot_of_key(key);
+        let slot = self.slot_of_key(key);
         match self.seek_new(seg, key, slot, &content, exclusive, t) {
             Err(answer) => answer,
             Ok(spot) => self.add(seg, key, slot, spot, &content, ttl, t),

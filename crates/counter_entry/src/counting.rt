@@ -5,6 +5,7 @@ ghost use Rattle.seg_words.specs.Kept.{KeptBeside};
 ghost use Rattle.apcu_model.specs.declared.request.Request.TheVariants.{Inc};
 ghost use Rattle.apcu_model.specs.Counters.{begun};
 ghost use Rattle.apcu_model.specs.Expiry.{live_row};
+ghost use Rattle.apcu_model.specs.SlotOrder.{slot_of};
 ghost use Rattle.cache_core.specs.CoreCache.{cache_of};
 ghost use Rattle.cache_core.specs.Events.{MayInsert, Does, IsBy, IsStep, IsUnchanged};
 ghost use Rattle.cache_core.specs.Integers.{NameNoScalar};
@@ -49,8 +50,36 @@ pub fn inc<S: Segment>(
     ensures beside { IfSome (live_row key.now t (cache_of core.old))
         (λ _. KeptBeside S.WordsIn seg.old seg.new) }
 {
-    match look_for(core, seg, key, t) {
-        Found::Nothing => begin(alloc, core, seg, key, step, ttl, t),
+    let slot = core.slot_of_key(key);
+    inc_in(alloc, core, seg, key, slot, step, ttl, t)
+}
+
+/// The same; `slot` is the key's.
+pub fn inc_in<S: Segment>(
+    alloc: Global,
+    core: &mut Core,
+    seg: &mut S,
+    key: &[u8],
+    slot: u32,
+    step: i64,
+    ttl: u32,
+    t: u64,
+) -> IncAnswer
+    requires short { length key.now < 2 ^ 32 }
+    requires slot { slot ≡ slot_of core.old.conf key.now }
+    requires ready { MayInsert S.WordsIn false core.old seg.old }
+    requires unnamed { NameNoScalar (S.aside seg.old).windows (cache_of core.old).rows }
+    ensures answer { IsBy (S.aside seg.new)
+        (λ held. inc_answer held key.now step ttl t (cache_of core.old)) result }
+    ensures does { Does S.WordsIn core.old core.new seg.old seg.new t
+        (Inc key.now step ttl) (reply_of result) }
+    ensures none { result ≡ answers.NotInteger
+        → IsUnchanged S.WordsIn core.old core.new seg.old seg.new }
+    ensures beside { IfSome (live_row key.now t (cache_of core.old))
+        (λ _. KeptBeside S.WordsIn seg.old seg.new) }
+{
+    match look_for(core, seg, key, slot, t) {
+        Found::Nothing => begin(alloc, core, seg, key, slot, step, ttl, t),
         Found::Other => IncAnswer::NotInteger,
         Found::Integer(at, n) => {
             let sum = n.wrapping_add(step);
@@ -71,17 +100,19 @@ fn answer(step: i64, stored: StoreAnswer) -> IncAnswer
     }
 }
 
-// A new counter, which counts the step from 0.
+// A new counter, which counts the step from 0; `slot` is the key's.
 fn begin<S: Segment>(
     alloc: Global,
     core: &mut Core,
     seg: &mut S,
     key: &[u8],
+    slot: u32,
     step: i64,
     ttl: u32,
     t: u64,
 ) -> IncAnswer
     requires short { length key.now < 2 ^ 32 }
+    requires slot { slot ≡ slot_of core.old.conf key.now }
     requires ready { MayInsert S.WordsIn false core.old seg.old }
     ensures answer { IsBy (S.aside seg.new) (λ held. begun_answer step
         (new_counter held key.now step ttl t (cache_of core.old)).answer) result }
@@ -91,5 +122,5 @@ fn begin<S: Segment>(
     ensures step { IsStep S.WordsIn core.old core.new seg.old seg.new }
 {
     let value = integer(alloc, step);
-    answer(step, core.store(seg, key, &value, ttl, false, t))
+    answer(step, core.store_in(seg, key, slot, &value, ttl, false, t))
 }

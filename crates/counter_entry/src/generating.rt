@@ -125,7 +125,7 @@ fn count_lookups<S: Segment>(core: &mut Core, seg: &mut S, missing: u32, at: Opt
     ensures step { IsStep S.WordsIn core.old core.new seg.old seg.new }
     ensures beside { KeptBeside S.WordsIn seg.old seg.new }
 {
-    core.count_misses(missing);
+    core.count_misses(u64::from(missing));
     if let Some(at) = at {
         core.count_hit(seg, at, t);
     }

@@ -9,6 +9,6 @@ mod looking;
 mod swapping;
 
 pub use answer::{Fate, IncAnswer};
-pub use counting::inc;
+pub use counting::{inc, inc_in};
 pub use generating::entry;
-pub use swapping::cas;
+pub use swapping::{cas, cas_in};

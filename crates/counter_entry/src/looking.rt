@@ -3,11 +3,12 @@
 ghost use Rattle.std.specs.Prelude.{◌≡◌, ◌<◌, ◌^◌, length};
 ghost use Rattle.seg_words.specs.Kept.{Kept};
 ghost use Rattle.apcu_model.specs.Expiry.{live_row};
+ghost use Rattle.apcu_model.specs.SlotOrder.{slot_of};
 ghost use Rattle.cache_core.specs.CoreCache.{cache_of, CacheStands};
 ghost use Rattle.counter_entry.specs.Numbers.{found_at, found_of, integer_of};
 
 use cache_core::{Core, Scalar};
-use seg_words::{Segment, WordsIn};
+use seg_words::WordsIn;
 
 // What a look-up of a key finds.
 #[derive(Clone, Copy)]
@@ -20,14 +21,21 @@ pub(crate) enum Found {
     Integer(u32, i64),
 }
 
-// Looks a key up at the moment t, without a use.
-pub(crate) fn look_for<S: Segment>(core: &Core, seg: &mut S, key: &[u8], t: u64) -> Found
+// Looks a key up at the moment t, without a use; `slot` is the key's.
+pub(crate) fn look_for<S: WordsIn>(
+    core: &Core,
+    seg: &mut S,
+    key: &[u8],
+    slot: u32,
+    t: u64,
+) -> Found
     requires short { length key.now < 2 ^ 32 }
+    requires slot { slot ≡ slot_of core.now.conf key.now }
     requires stand { CacheStands S.WordsIn core.now seg.old }
     ensures found { result ≡ found_of (live_row key.now t (cache_of core.now)) }
     ensures kept { Kept S.WordsIn seg.old seg.new }
 {
-    let Some((at, scalar)) = core.peek(seg, key, t) else {
+    let Some((at, scalar)) = core.peek_in(seg, key, slot, t) else {
         return Found::Nothing;
     };
     found_at(at, scalar)

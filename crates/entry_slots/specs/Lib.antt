@@ -6,6 +6,7 @@ pub mod Reading
 pub mod EntryWords
 pub mod Links
 pub mod Facts
+pub mod Finding
 pub mod RowWalks
 pub mod Sums
 pub mod Laws

@@ -4,6 +4,7 @@
 mod all_rows;
 mod beside;
 mod copying;
+mod finding;
 mod head;
 mod keys;
 mod laws;
@@ -16,7 +17,9 @@ mod spots;
 mod standing;
 mod writing;
 
+pub use finding::Finder;
 pub use head::{ATIME, CTIME, DTIME, HITS, Head, MTIME, NEXT, NUMBER, TTL};
 pub use laws::{leaving_laws, place_laws, standing_laws, window_laws};
+pub use reading::hard_expired_at;
 pub use slots::EntrySlots;
 pub use spots::Spot;

@@ -11,31 +11,27 @@ ghost use Rattle.entry_slots.specs.Reading.{ImageIn};
 ghost use Rattle.entry_slots.specs.Standing.{Stand, entries};
 
 use crate::head::{ATIME, CTIME, TTL, has_passed};
+use crate::reading::hard_expired_at;
 use crate::slots::EntrySlots;
-use seg_words::{HEAD_WORDS, IMAGE_LENGTH, Segment, WordsIn, words_in};
+use seg_words::{HEAD_WORDS, IMAGE_LENGTH, WordsIn, words_in};
 
 impl EntrySlots {
     /// Whether the own time of the entry at a place is over at the moment `t`, in seconds: a
     /// look-up does not find it. The moment of its creation is read only where it has such a time.
-    pub fn is_hard_expired<S: Segment>(&self, seg: &mut S, at: u32, t: u64) -> bool
+    pub fn is_hard_expired<S: WordsIn>(&self, seg: &mut S, at: u32, t: u64) -> bool
         requires stand { Stand S.WordsIn self.now seg.old }
         requires there { has_place at (listed (entries self.now)) ≡ true }
         ensures over { (row : Row) → IsListed (entries self.now) at row
             → result ≡ is_hard_expired t row }
         ensures kept { Kept S.WordsIn seg.old seg.new }
     {
-        let own = seg.load(at + TTL);
-        if own == 0 {
-            return false;
-        }
-        let ctime = seg.load(at + CTIME);
-        has_passed(own, ctime, t)
+        hard_expired_at(seg, at, t)
     }
 
     /// Whether the own time of the entry at a place is over at the moment `t` or, where it has
     /// none, it was not used for longer than `limit`, the cache's, both in seconds. Only the moment
     /// that decides it is read.
-    pub fn is_expired<S: Segment>(&self, seg: &mut S, at: u32, limit: u32, t: u64) -> bool
+    pub fn is_expired<S: WordsIn>(&self, seg: &mut S, at: u32, limit: u32, t: u64) -> bool
         requires stand { Stand S.WordsIn self.now seg.old }
         requires there { has_place at (listed (entries self.now)) ≡ true }
         requires limit { limit ≡ (entries self.now).conf.ttl }
@@ -57,7 +53,7 @@ impl EntrySlots {
 
     /// The place of the image of the entry at a place whose key has `key_len` bytes. No word is
     /// read.
-    pub fn image_at<S: Segment>(&self, _seg: &S, at: u32, key_len: u32) -> u32
+    pub fn image_at<S: WordsIn>(&self, _seg: &S, at: u32, key_len: u32) -> u32
         requires stand { Stand S.WordsIn self.now _seg.now }
         requires there { has_place at (listed (entries self.now)) ≡ true }
         ensures image { (row : Row) → IsListed (entries self.now) at row
@@ -67,7 +63,7 @@ impl EntrySlots {
     }
 
     /// The length in words of the image of the entry at a place.
-    pub fn image_len<S: Segment>(&self, seg: &mut S, at: u32) -> u32
+    pub fn image_len<S: WordsIn>(&self, seg: &mut S, at: u32) -> u32
         requires stand { Stand S.WordsIn self.now seg.old }
         requires there { has_place at (listed (entries self.now)) ≡ true }
         ensures len { (row : Row) → IsListed (entries self.now) at row

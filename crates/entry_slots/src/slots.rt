@@ -18,10 +18,11 @@ ghost use Rattle.entry_slots.specs.Standing.{Stand, IsStanding, entries};
 ghost use Rattle.entry_slots.specs.Links.{IsLinkTo, IsTarget};
 ghost use Rattle.entry_slots.specs.Reading.{HeadIn};
 
+use crate::finding::Finder;
 use crate::head::{ATIME, CTIME, DTIME, HITS, Head, MTIME, NEXT, NUMBER, TTL};
-use crate::keys::{hash_at, key_word, slot_in};
+use crate::keys::{hash_at, slot_in};
 use crate::lower::lower_laws;
-use crate::reading::{count_after, first_words, next_of};
+use crate::reading::{count_after, first_of, first_words, has_key_at, next_of};
 use crate::standing::{Change, Standing};
 use crate::writing::{NewHead, put_entry};
 use php_graph::{Graph, hash_of};
@@ -81,13 +82,13 @@ impl EntrySlots {
     }
 
     /// The first entry of a slot's chain, or 0 where the chain is empty.
-    pub fn first_in<S: Segment>(&self, seg: &mut S, slot: u32) -> u32
+    pub fn first_in<S: WordsIn>(&self, seg: &mut S, slot: u32) -> u32
         requires stand { Stand S.WordsIn self.now seg.old }
         requires slot { slot < (entries self.now).conf.slots }
         ensures first { result ≡ first_place (chain_of (entries self.now) slot) }
         ensures kept { Kept S.WordsIn seg.old seg.new }
     {
-        seg.load(slot) as u32
+        first_of(seg, slot)
     }
 
     /// The first removed entry, or 0 where there is none.
@@ -99,7 +100,7 @@ impl EntrySlots {
     }
 
     /// The entry that follows one in its chain, or among the removed ones; 0 at the end.
-    pub fn after<S: Segment>(&self, seg: &mut S, at: u32) -> u32
+    pub fn after<S: WordsIn>(&self, seg: &mut S, at: u32) -> u32
         requires stand { Stand S.WordsIn self.now seg.old }
         requires there { has_place at (listed (entries self.now)) ≡ true }
         ensures row { FollowsInChain (entries self.now) at result }
@@ -110,7 +111,7 @@ impl EntrySlots {
     }
 
     /// Whether the entry has this key.
-    pub fn key_is<S: Segment>(&self, seg: &mut S, at: u32, key: &[u8]) -> bool
+    pub fn key_is<S: WordsIn>(&self, seg: &mut S, at: u32, key: &[u8]) -> bool
         requires stand { Stand S.WordsIn self.now seg.old }
         requires there { has_place at (listed (entries self.now)) ≡ true }
         requires short { length key.now < 2 ^ 32 }
@@ -118,37 +119,41 @@ impl EntrySlots {
             → result ≡ has_key key.now row }
         ensures kept { Kept S.WordsIn seg.old seg.new }
     {
-        lower_laws();
-        if seg.load(at + KEY_LENGTH) != key.len() as u64 {
-            return false;
+        has_key_at(seg, at, key)
+    }
+
+    /// What a look-up needs to know beside the words. It is good until a row comes or goes.
+    pub fn finder(&self) -> Finder
+        requires stand { IsStanding self.now }
+        ensures slots { result.slots ≡ (entries self.now).conf.slots }
+        ensures rows { result.rows ≡ length (entries self.now).rows }
+    {
+        Finder {
+            slots: self.sma.bounds.from,
+            rows: self.count,
         }
-        for i in 0..words_in(key.len() as u32) {
-            if seg.load(at + HEAD_WORDS + i) != key_word(key, i) {
-                return false;
-            }
-        }
-        true
     }
 
     /// The block of the row of this key, `None` exactly where no row has it.
-    pub fn find<S: Segment>(&self, seg: &mut S, key: &[u8]) -> Option<u32>
+    pub fn find<S: WordsIn>(&self, seg: &mut S, key: &[u8]) -> Option<u32>
         requires stand { Stand S.WordsIn self.now seg.old }
         requires short { length key.now < 2 ^ 32 }
         ensures row { result ≡ place_of key.now (entries self.now) }
         ensures kept { Kept S.WordsIn seg.old seg.new }
     {
         let slot = self.slot_of_key(key);
-        let mut at = self.first_in(seg, slot);
-        for _passed in 0..self.count {
-            if at == 0 {
-                return None;
-            }
-            if self.key_is(seg, at, key) {
-                return Some(at);
-            }
-            at = next_of(seg, at);
-        }
-        None
+        self.find_in(seg, key, slot)
+    }
+
+    /// The same; `slot` is the key's.
+    pub fn find_in<S: WordsIn>(&self, seg: &mut S, key: &[u8], slot: u32) -> Option<u32>
+        requires stand { Stand S.WordsIn self.now seg.old }
+        requires short { length key.now < 2 ^ 32 }
+        requires slot { slot ≡ slot_of (entries self.now).conf key.now }
+        ensures row { result ≡ place_of key.now (entries self.now) }
+        ensures kept { Kept S.WordsIn seg.old seg.new }
+    {
+        self.finder().find(seg, key, slot)
     }
 
     /// Counts that the entry was used at the moment `t`: one hit more, but a count stays at the
@@ -185,7 +190,7 @@ impl EntrySlots {
     }
 
     /// What the entry's first words say.
-    pub fn head<S: Segment>(&self, seg: &mut S, at: u32) -> Head
+    pub fn head<S: WordsIn>(&self, seg: &mut S, at: u32) -> Head
         requires stand { Stand S.WordsIn self.now seg.old }
         requires there { has_place at (listed (entries self.now)) ≡ true }
         ensures head { (row : Row) → IsListed (entries self.now) at row

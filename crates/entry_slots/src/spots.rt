@@ -2,10 +2,11 @@
 //! chain there walk no more.
 
 ghost use Rattle.std.specs.Prelude.{◌≡◌, ◌≢◌, ◌⊎◌, ℕ, ◌+◌, ◌<◌, ◌^◌, ◌||◌, true};
-ghost use Rattle.std.specs.Prelude.{length, slice_index, Contains};
+ghost use Rattle.std.specs.Prelude.{List, length, slice_index, Contains};
 ghost use Rattle.entry_slots.specs.declared.head.TheConstants.{NEXT};
 ghost use Rattle.std.specs.List.{list_any};
 ghost use Rattle.seg_words.specs.Kept.{Kept, KeptBeside};
+ghost use Rattle.php_graph.specs.Numbers.{hash_of};
 ghost use Rattle.apcu_model.specs.Expiry.{is_expired};
 ghost use Rattle.apcu_model.specs.SlotOrder.{slot_of};
 ghost use Rattle.entry_slots.specs.Lists.{has_place};
@@ -49,17 +50,27 @@ fn either(one: bool, other: bool) -> bool
 }
 
 impl EntrySlots {
-    /// The slot of a key. It takes the key's hash, so ask once.
+    /// The slot of a key. It computes the key's hash, so ask once, or `slot_of_hash` if the hash is
+    /// known.
     pub fn slot_of_key(&self, key: &[u8]) -> u32
         requires stand { IsStanding self.now }
         ensures slot { result ≡ slot_of (entries self.now).conf key.now }
     {
-        slot_in(hash_of(key), self.sma.bounds.from)
+        self.slot_of_hash(hash_of(key))
+    }
+
+    /// The slot of a key that has this hash.
+    pub fn slot_of_hash(&self, hash: u64) -> u32
+        requires stand { IsStanding self.now }
+        ensures slot { (key : List ℕ) → hash ≡ hash_of key
+            → result ≡ slot_of (entries self.now).conf key }
+    {
+        slot_in(hash, self.sma.bounds.from)
     }
 
     /// Finds where the row of a key stands, by one walk along the chain of its slot as far as
     /// there. `limit` is the cache's time limit.
-    pub fn seek<S: Segment>(&self, seg: &mut S, key: &[u8], slot: u32, limit: u32, t: u64) -> Spot
+    pub fn seek<S: WordsIn>(&self, seg: &mut S, key: &[u8], slot: u32, limit: u32, t: u64) -> Spot
         requires short { length key.now < 2 ^ 32 }
         requires stand { Stand S.WordsIn self.now seg.old }
         requires slot { slot ≡ slot_of (entries self.now).conf key.now }
@@ -102,7 +113,7 @@ impl EntrySlots {
 
     /// Whether a row of the chain is expired. The walk that found the spot is gone on with: the
     /// rows before it are not read again.
-    pub fn has_expired<S: Segment>(&self, seg: &mut S, spot: Spot, limit: u32, t: u64) -> bool
+    pub fn has_expired<S: WordsIn>(&self, seg: &mut S, spot: Spot, limit: u32, t: u64) -> bool
         requires stand { Stand S.WordsIn self.now seg.old }
         requires spot { IsSpot (entries self.now) t spot }
         requires limit { limit ≡ (entries self.now).conf.ttl }

@@ -1,10 +1,8 @@
-use Rattle.std.proofs.Common.{ℕ, ◌+◌, ◌-◌, ◌^◌, ap, ◌∙◌, arith}
-use Rattle.std.specs.Prelude.{min}
+use Rattle.std.proofs.Common.{◌∙◌, arith}
 use Rattle.cache_core.proofs.SaturatingCounts.{risen_by_is}
 use Rattle.cache_core.proofs.cache_counts.risen.Goals as goal
 
 pub returns : goal.returns
 returns c =
     c.saturating_add.ensures
-    ∙ (ap (λ (m : ℕ). min (c.args.count + m) (2 ^ 64 - 1)) c.from.ensures
-    ∙ risen_by_is c.args.n c.args.count (omega (arith, c.ranges.count.fits)))
+    ∙ risen_by_is c.args.n c.args.count (omega (arith, c.ranges.count.fits))

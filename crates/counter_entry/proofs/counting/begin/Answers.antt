@@ -25,11 +25,11 @@ returns g c =
     let key = c.args.key.now in
     let n = to_z w64 (of_z w64 c.args.step) in
     let same = to_z-of_z w64 c.args.step c.ranges.step in
-    let is = stored (g.S.WordsIn.aside c.store.new.seg) key c.args.ttl c.args.t old c.store.result (cache_of c.store.new.self) c.integer-value.ensures c.store.ensures.answer c.store.ensures.does.cache in
+    let is = stored (g.S.WordsIn.aside c.store_in.new.seg) key c.args.ttl c.args.t old c.store_in.result (cache_of c.store_in.new.self) c.integer-value.ensures c.store_in.ensures.answer c.store_in.ensures.does.cache in
     record {
       answer = λ later on. c.answer.ensures ∙ (ap (λ (i : Insertion). begun_answer n i.answer) (is later on) ∙ ap (λ (z : ℤ). begun_answer z (new_counter (held_blocks later) key z c.args.ttl c.args.t old).answer) same);
       counted = λ later on.
-          ap (λ (o : Option ℤ). let x : Count = record { number = o; cache = cache_of c.store.new.self } in x) (sym (number_begun n c.store.result ∙ ap number_answered (sym c.answer.ensures)))
+          ap (λ (o : Option ℤ). let x : Count = record { number = o; cache = cache_of c.store_in.new.self } in x) (sym (number_begun n c.store_in.result ∙ ap number_answered (sym c.answer.ensures)))
           ∙ (ap (begun n) (is later on) ∙ ap (λ (z : ℤ). begun z (new_counter (held_blocks later) key z c.args.ttl c.args.t old)) same);
-      step = c.store.ensures.does.step;
+      step = c.store_in.ensures.does.step;
     }

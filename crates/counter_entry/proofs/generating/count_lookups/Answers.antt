@@ -1,4 +1,4 @@
-use Rattle.std.proofs.Common.{◌≡◌, true, Some, sym, ap, ◌∙◌, subst, arith}
+use Rattle.std.proofs.Common.{◌≡◌, ℕ, true, Some, sym, ap, ◌∙◌, subst, arith}
 use Rattle.apcu_model.specs.Cache.{Cache}
 use Rattle.apcu_model.specs.Expiry.{live_row}
 use Rattle.apcu_model.specs.Sequential.{looked_up}
@@ -7,6 +7,7 @@ use Rattle.entry_slots.specs.RowPlaces.{place_there}
 use Rattle.entry_slots.specs.Lists.{has_place}
 use Rattle.entry_slots.specs.Standing.{entries}
 use Rattle.cache_core.specs.CoreCache.{cache_of}
+use Rattle.cache_core.specs.Counting.{with_misses}
 use Rattle.counter_entry.proofs.IntegerLookUps.{live_there}
 use Rattle.counter_entry.proofs.Levels.{placed_is, none_placed, row_is, none_is}
 use Rattle.counter_entry.proofs.generating.count_lookups.Goals as goal
@@ -24,11 +25,11 @@ returns-in-Some-clause-cache g c = λ levels at_is missing_is.
     let old = cache_of c.args.core.now in
     let p = placed_is levels c.args.t old c.in-Some.at (sym c.in-Some.is ∙ at_is) in
     let u = row_is levels c.args.t old p.row p.first in
-    let live : live_row u.key c.args.t (cache_of c.count_misses.new.self) ≡ Some p.row = ap (λ (x : Cache). live_row u.key c.args.t x) c.count_misses.ensures.cache ∙ u.live in
+    let live : live_row u.key c.args.t (cache_of c.count_misses.new.self) ≡ Some p.row = ap (λ (x : Cache). live_row u.key c.args.t x) (c.count_misses.ensures.cache ∙ ap (λ (n : ℕ). with_misses n old) c.from.ensures) ∙ u.live in
     c.count_hit.ensures.cache u.key c.args.t p.row live p.place
-    ∙ (ap (λ (x : Cache). looked_up u.key c.args.t (Some p.row) x) c.count_misses.ensures.cache ∙ sym (u.looked 0 c.args.missing (omega (arith, missing_is))))
+    ∙ (ap (λ (x : Cache). looked_up u.key c.args.t (Some p.row) x) (c.count_misses.ensures.cache ∙ ap (λ (n : ℕ). with_misses n old) c.from.ensures) ∙ sym (u.looked 0 c.args.missing (omega (arith, missing_is))))
 
 pub returns-in_default-clause-cache : goal.returns-in_default-clause-cache
 returns-in_default-clause-cache g c = λ levels at_is missing_is.
     let old = cache_of c.args.core.now in
-    c.count_misses.ensures.cache ∙ sym (none_is levels c.args.t old (none_placed levels c.args.t old (sym c.in_default.is ∙ at_is)) 0 c.args.missing (omega (arith, missing_is)))
+    c.count_misses.ensures.cache ∙ ap (λ (n : ℕ). with_misses n old) c.from.ensures ∙ sym (none_is levels c.args.t old (none_placed levels c.args.t old (sym c.in_default.is ∙ at_is)) 0 c.args.missing (omega (arith, missing_is)))

@@ -50,3 +50,6 @@ unpersist-value-requires-clause-told g c = λ i low high.
     let image = c.image_at-image.ensures.image f.row is (ap length (sym f.is_row.key_is)) in
     let inside = subst (λ n. i < c.image_at-image.result + n) (c.image_len-len.ensures.len f.row is) high in
     subst (λ (a : Aside). IsTold a.windows i) (sym c.image_len-len.ensures.kept.aside) (image.told i low inside)
+
+pub slot_of_key-slot-requires : goal.slot_of_key-slot-requires
+slot_of_key-slot-requires g c = record { stand = record { words = g.S.WordsIn.words c.args.seg.now; aside = g.S.WordsIn.aside c.args.seg.now; stand = c.requires.stand } }

@@ -22,3 +22,9 @@ returns-clause-step g c =
     let touched = c.touch.ensures.touched in
     quiet c.touch.ensures.beside (touched_open (g.S.WordsIn.aside c.touch.new.seg).windows (entries core.slots) (entries new.slots) c.args.at c.args.t touched) (ap (λ (x : Entries). x.removed) touched)
     (record { stand = c.touch.ensures.stand; whole = (core_used core new c.args.at c.args.t c.requires.stand.whole touched refl c.after_hit-self.ensures).1 })
+
+pub returns-clause-used : goal.returns-clause-used
+returns-clause-used g c =
+    let core = c.args.self.now in
+    let new : Core = record core { slots = c.touch.new.self; cache_counts = c.after_hit-self.result } in
+    (core_used core new c.args.at c.args.t c.requires.stand.whole c.touch.ensures.touched refl c.after_hit-self.ensures).0

@@ -1,7 +1,4 @@
-use Rattle.std.proofs.Common.{◌∙◌}
-use Rattle.cache_core.specs.CoreCache.{cache_of}
-use Rattle.cache_core.proofs.LiveRows.{found_some}
 use Rattle.cache_core.proofs.cache.Core.exists.Goals as goal
 
-pub returns-clause-found : goal.returns-clause-found
-returns-clause-found g c = c.is_some.ensures ∙ found_some c.args.key.now c.args.t (cache_of c.args.self.now) c.find_live.result c.find_live.ensures.found c.find_live.ensures.none
+pub slot_of_key-slot-requires : goal.slot_of_key-slot-requires
+slot_of_key-slot-requires g c = record { stand = record { words = g.S.WordsIn.words c.args.seg.now; aside = g.S.WordsIn.aside c.args.seg.now; stand = c.requires.stand } }

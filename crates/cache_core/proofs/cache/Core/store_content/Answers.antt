@@ -4,7 +4,6 @@ use Rattle.seg_words.specs.Probing.{goes_on}
 use Rattle.seg_words.specs.Windows.{held_blocks}
 use Rattle.apcu_model.specs.declared.conf.Conf.{Conf}
 use Rattle.apcu_model.specs.SlotOrder.{slot_of}
-use Rattle.entry_slots.specs.Entries.{Entries}
 use Rattle.cache_core.specs.CoreCache.{cache_of}
 use Rattle.cache_core.specs.Events.{MayInsert}
 use Rattle.cache_core.specs.Storing.{added}
@@ -15,15 +14,11 @@ use Rattle.cache_core.proofs.SpotsAfterRoom.{same_spot_if}
 use Rattle.value_image.specs.Contained.{graph_of}
 use Rattle.cache_core.proofs.cache.Core.store_content.Goals as goal
 
-pub seek_new-requires-clause-slot : goal.seek_new-requires-clause-slot
-seek_new-requires-clause-slot g c = c.slot_of_key-slot.ensures.slot ∙ ap (λ (x : Entries). slot_of x.conf c.args.key.now) c.requires.ready.stand.whole
-
 pub sweep-requires : goal.sweep-requires
 sweep-requires g c = record { ready = insert_kept c.args.self.now c.seek_new.ensures.kept c.requires.ready }
 
 pub add-requires-clause-slot : goal.add-requires-clause-slot
-add-requires-clause-slot g c =
-    c.slot_of_key-slot.ensures.slot ∙ (ap (λ (x : Entries). slot_of x.conf c.args.key.now) c.requires.ready.stand.whole ∙ ap (λ (k : Conf). slot_of k c.args.key.now) (sym c.sweep.ensures.conf))
+add-requires-clause-slot g c = c.requires.slot ∙ ap (λ (k : Conf). slot_of k c.args.key.now) (sym c.sweep.ensures.conf)
 
 pub add-requires-clause-spot : goal.add-requires-clause-spot
 add-requires-clause-spot g c = same_spot_if c.args.key.now c.args.t c.in-Ok.spot c.sweep.ensures.alike c.in-Ok.ensures.spot

@@ -1,18 +1,13 @@
-use Rattle.std.proofs.Common.{refl, sym, ap, ◌∙◌}
+use Rattle.std.proofs.Common.{refl, sym, ◌∙◌}
 use Rattle.std.proofs.lemmas.Bool.{false≢true}
 use Rattle.seg_words.specs.Windows.{held_blocks}
-use Rattle.apcu_model.specs.SlotOrder.{slot_of}
-use Rattle.entry_slots.specs.Entries.{Entries}
 use Rattle.cache_core.specs.CoreCache.{cache_of}
 use Rattle.cache_core.proofs.Events.{insert_kept, still, steps}
 use Rattle.cache_core.proofs.InsertionAnswers.{IsInserted, answers, does_store, refused}
 use Rattle.cache_core.proofs.cache.Core.store_next.Goals as goal
 
-pub seek_new-requires-clause-slot : goal.seek_new-requires-clause-slot
-seek_new-requires-clause-slot g c = c.slot_of_key-slot.ensures.slot ∙ ap (λ (x : Entries). slot_of x.conf c.args.key.now) c.requires.ready.stand.whole
-
-pub add-requires-clause-slot : goal.add-requires-clause-slot
-add-requires-clause-slot g c = c.slot_of_key-slot.ensures.slot ∙ ap (λ (x : Entries). slot_of x.conf c.args.key.now) c.requires.ready.stand.whole
+pub slot_of_key-slot-requires : goal.slot_of_key-slot-requires
+slot_of_key-slot-requires g c = record { stand = record { words = g.S.WordsIn.words c.args.seg.now; aside = g.S.WordsIn.aside c.args.seg.now; stand = c.requires.ready.stand } }
 
 pub add-requires-clause-ready : goal.add-requires-clause-ready
 add-requires-clause-ready g c = insert_kept c.args.self.now c.seek_new.ensures.kept c.requires.ready

@@ -1,11 +1,4 @@
-use Rattle.std.proofs.Common.{◌%◌, ap, ◌∙◌, arith}
-use Rattle.entry_slots.specs.Standing.{entries}
 use Rattle.entry_slots.proofs.slots.EntrySlots.slot_of_key.Goals as goal
 
-pub slot_in-requires : goal.slot_in-requires
-slot_in-requires c = let h = c.requires.stand.stand in record { some = omega (arith, h.from, h.usable.slots_least) }
-
 pub returns : goal.returns
-returns c =
-    let h = c.requires.stand.stand in
-    record { slot = c.slot_in.ensures.slot ∙ (ap (λ k. c.hash_of.result % k) h.from ∙ ap (λ k. k % (entries c.args.self.now).conf.slots) c.hash_of.ensures) }
+returns c = record { slot = c.slot_of_hash.ensures.slot c.args.key.now c.hash_of.ensures }

@@ -1,7 +1,7 @@
 use Rattle.std.proofs.Common.{◌≡◌, ℕ, ◌+◌, ◌<◌, slice_index}
 use Rattle.value_image.specs.PackedBytes.{word_at}
 use Rattle.seg_words.specs.Kept.{Kept}
-use Rattle.entry_slots.proofs.slots.EntrySlots.key_is.Given as goal
+use Rattle.entry_slots.proofs.reading.has_key_at.Given as goal
 
 abbrev pub invariant-loop-i : goal.invariant-loop-i
 invariant-loop-i g l = record {

@@ -1,0 +1,4 @@
+use Rattle.cache_core.proofs.cache.Core.slot_of_key.Goals as goal
+
+pub returns : goal.returns
+returns c = record { slot = c.slot_of_hash.ensures.slot c.args.key.now c.hash_of.ensures }
