@@ -112,8 +112,8 @@ fn leave(out: &mut ByteOut, lines: Lines)
 }
 
 /// Plays these steps as `play_script` does those of a script, and gives what is left of the lines.
-/// Where they are dropped, what it takes of memory does not grow with the replies. The gate is told
-/// of the same points.
+/// If they are dropped, memory does not grow with the replies, which no clause says. The gate is
+/// told of the same points.
 ///
 /// At `Ok` its worker has asked in turn what the steps want, and nothing is left but its end.
 pub fn play_lines<N: TableName, M: Maker + Sync, G: Gate, R: Wait, S: Steps + Drop>(
