@@ -16,12 +16,12 @@ ghost use Rattle.worker_play.specs.declared.script.PlayFault.TheVariants.{Memory
 
 use crate::context::{Context, When};
 use crate::searching::play_call;
-use row_search::Maker;
 use apcu_model::{Clock, Conf};
 use io_edges::{Gate, Point};
 use notation::ByteOut;
 use pin_table::{Pass, TableName};
 use play_laws::one_event_own;
+use row_search::Maker;
 use script_read::{AsStep, Call, Script, ScriptSteps, Steps};
 use shared_cache::Shared;
 use std::alloc::{AllocError, Global};
