@@ -72,6 +72,32 @@ pub record FieldOrders : Type 0 where
   pub counts : (c : ToldCounts) → counts_laid.the_type.as_values c
       ≡ (c.hits, (c.misses, (c.inserts, (c.expunges, (c.entries, (c.row_words, (c.free_words, tt)))))))
   pub row : (r : ToldRow) → row_laid.the_type.as_values r
-      ≡ (r.place, (r.slot, (r.key_place, (r.key_len, (r.ttl, (r.size, (r.ctime, (r.mtime, (r.atime,
-      (r.dtime, (r.hits, (r.value, tt))))))))))))
+      ≡ (
+        r.place,
+        (
+          r.slot,
+          (
+            r.key_place,
+            (
+              r.key_len,
+              (
+                r.ttl,
+                (
+                  r.size,
+                  (
+                    r.ctime,
+                    (
+                      r.mtime,
+                      (
+                        r.atime,
+                        (r.dtime, (r.hits, (r.value, tt))),
+                      ),
+                    ),
+                  ),
+                ),
+              ),
+            ),
+          ),
+        ),
+      )
   pub gap : (g : Gap) → gap_laid.the_type.as_values g ≡ (g.place, (g.size, tt))
