@@ -107,8 +107,10 @@ class Source:
         return first in clauses and set(rest) <= self.fields(clauses[first]) | {""}
 
     def has_test(self, name):
-        """A test; a file, which means its tests; a program of C; or a crate: all its tests, or the stored run of a program."""
-        return name in self.tests or name in self.files or name.endswith(".c") and os.path.isfile(name) or "::" not in name \
+        """A test; a file, which means its tests; or a crate: all its tests, or the stored run of a program."""
+        if name.endswith(".c"):
+            return os.path.isfile(name)
+        return name in self.tests or name in self.files or "::" not in name \
             and (any(test.startswith(f"{name}::") for test in self.tests) or os.path.isfile(f"crates/{name}/stdin"))
 
 
@@ -169,17 +171,6 @@ def edits_of(source):
         for key in keys:
             found.setdefault(key, []).append((tier, crate, name[:-len(".edit")], path))
     return found
-
-
-def changes_a_law(path):
-    """Whether an edit changes a definition or a clause, as one of a law does, which has no body."""
-    text, crate = open(path, encoding="utf-8").read(), path.split("/")[1]
-    file = re.search(r"^file: (.*)$", text, re.M).group(1)
-    if not file.startswith("src/") or os.path.basename(file) == "laws.rt":
-        return True
-    source = open(f"crates/{crate}/{file}", encoding="utf-8").read()
-    begins = [source.rfind("\n", 0, source.find(old)) + 1 for old in re.findall(r"^old: (.*)$", text, re.M)]
-    return any(CLAUSE.match(source[begin:]) for begin in begins)
 
 
 def check(tables, edits, source):
@@ -275,7 +266,6 @@ def coverage(tables, edits, tried, old):
     none = [row for row, kind in zip(rows, kinds) if not any(kind)]
     untested = [row for row in rows if not row["test"]]
     bare = sum(not row["test"] for row in none)
-    laws = sum(map(changes_a_law, glob.glob("crates/*/must-fail/*.edit") + glob.glob("crates/*/more-edits/*.edit")))
     waits = [(line.split(":")[0].split()[0], int(count)) for line in open("crates.txt", encoding="utf-8")
              for count in re.findall(r"\bmay_wait=(\d+)", line)]
     trials = [trial("must-fail", "Edits in the gate", tried), trial("more-edits", "Further edits", tried)]
@@ -286,9 +276,7 @@ def coverage(tables, edits, tried, old):
 - Rows: {len(rows)}. With an edit of their own in the gate {own}, with one that is alike alone {alike}, with further \
 edits alone {further}, with none {len(none)}.
 - Rows without a test: {len(untested)}, of which {bare} have no edit either.
-{"".join(trials)}- Edits that change the clause of a law, or a definition, and no body: {laws}. They show that the law can be false, \
-and nothing of the program.
-- Functions that may wait: {sum(count for _, count in waits)}, in \
+{"".join(trials)}- Functions that may wait: {sum(count for _, count in waits)}, in \
 {", ".join(f"`{name}` ({count})" for name, count in waits)}. All others return.
 """
 
