@@ -12,8 +12,10 @@
  * null, and a length of 2^63 bytes or more. A null to no bytes is taken as no bytes.
  *
  * The exports of the library are cache_size and the functions whose names end in _unchecked. They
- * are proved, where no pointer is null and a slice has less than 2^63 bytes. The functions that
- * look for that first are C of this header: they are tested, and not proved. */
+ * are proved for calls that come one at a time, with the handle that cache_new made, with no null
+ * and aligned pointers, with slices of less than 2^63 bytes, and with what is written apart from
+ * all else. The functions that test pointers and lengths first are C of this header: they are
+ * tested, and not proved. */
 #ifndef CACHE_C_H
 #define CACHE_C_H
 
@@ -49,7 +51,11 @@ void rattle_dealloc(void *at);
 int rattle_errno(void);
 
 /* A shape: all words (8 bytes each) of the segments, how many of them are slots, after how many
- * seconds an unused row is stale (0: never), and how many segments there are. */
+ * seconds an unused row is stale (0: never), and how many segments there are.
+ *
+ * Usable are 1 to 64 segments; 32 to 268,435,456 words, a multiple of twice the segments; an even
+ * number of slots from 2 to 1,048,576, with 16 words or more left in the first segment
+ * (slots + 16 <= words / segments); and each number of seconds. */
 typedef struct {
     uint32_t words, slots, ttl, segments;
 } cache_shape;
@@ -65,7 +71,9 @@ enum {
 size_t cache_size(void);
 
 /* Makes an empty cache of this shape in the memory at `at`, which then is its handle. Any other
- * number than CACHE_MADE says why there is none. */
+ * number than CACHE_MADE says why there is none.
+ *
+ * It asks rattle_alloc for 8 bytes a word, and for an index of about 1.1 bytes a word. */
 static inline uint32_t cache_new(const cache_shape *shape, uint8_t *at);
 
 /* What is asked. Each is one event of the cache. */
@@ -88,7 +96,7 @@ typedef struct {
     uint32_t kind;   /* which request */
     uint32_t value;  /* which kind of value is stored */
     uint32_t ttl;    /* seconds; 0: no limit */
-    uint64_t t;      /* the second of the call */
+    uint64_t t;      /* the second of the call, below */
     uint64_t number; /* an integer's 64 bits, or a truth value; a seat */
     uint64_t set;    /* an integer's 64 bits; a count of bytes */
     uint64_t hash;   /* the key's, for cache_ask_hashed; cache_ask computes it */
@@ -98,7 +106,13 @@ typedef struct {
  * is null or the key has 4 GB or more. */
 static inline uint64_t cache_hash(const uint8_t *key, size_t key_len);
 
-/* The answers that are no values. */
+/* The second `t` is of a clock that all callers share; the library has none. A row expires by the
+ * seconds from its creation, or its last use, to `t`. The clock may go back: a row that was created
+ * or used after `t` has not expired. */
+
+/* The answers that are no values. A store is not done (CACHE_NO) where the value can never fit,
+ * which changes nothing; where all rows that can be dropped were, and there is still no gap of that
+ * size; and, for CACHE_ADD, where the key has a live row. */
 enum {
     CACHE_OTHER = 4, /* a value of another kind */
     CACHE_ABSENT,    /* no live row has the key */
@@ -119,10 +133,11 @@ typedef struct {
 /* Asks the cache for one event. The place of a string's bytes is good until the next event.
  *
  * Of a string that CACHE_HOLD answers, of `set` bytes or more, the seat `number` holds the row from
- * then on, and what it held before no longer. Its bytes stay where they are, and no call writes
- * there, whatever is stored, deleted or cleared: the words from `place` on may be read with no lock,
- * until the seat is let go, or taken again. What the row takes is given out again only after that,
- * so a store may find less room; it never waits. */
+ * then on, and what it held before no longer. A CACHE_HOLD that answers anything else leaves the
+ * seat as it was. The bytes of a held row stay where they are, and no call writes there, whatever is
+ * stored, deleted or cleared: the words from `place` on may be read with no lock, until the seat is
+ * released or taken again. The row's block is not allocated again before that. So a store that needs
+ * its room may evict more rows, or answer CACHE_NO; it never waits. */
 static inline cache_answer cache_ask(uint8_t *at, const cache_request *ask, const uint8_t *key,
                                      size_t key_len, const uint8_t *bytes, size_t bytes_len);
 
@@ -135,8 +150,8 @@ static inline cache_answer cache_ask_hashed(uint8_t *at, const cache_request *as
 /* How many seats there are, from 0 on. */
 enum { CACHE_SEATS = 64 };
 
-/* The seat holds nothing from now on; false where there is none of this number, or a null. It is no
- * event. */
+/* Releases the seat: it holds nothing from now on. False if there is none of this number, or at a
+ * null. It is no event. */
 static inline bool cache_let_go(uint8_t *at, uint32_t seat);
 
 /* Fills the memory with the bytes from this place on; false where there are not so many words, or a
@@ -146,14 +161,15 @@ static inline bool cache_copy(uint8_t *at, uint32_t place, uint8_t *out, size_t 
 /* What is told from here on changes nothing, and is no event. */
 
 typedef struct {
-    uint64_t hits, misses;        /* fetches that found a row, or none */
-    uint64_t inserts;             /* rows that were stored */
-    uint64_t expunges;            /* how often room was made by dropping rows */
-    uint64_t entries;             /* rows, those whose time is over too */
+    uint64_t hits, misses;        /* fetches that found a row, or none, since the last expunge */
+    uint64_t inserts;             /* rows that were stored, since then */
+    uint64_t expunges;            /* expunges since the cache was cleared */
+    uint64_t entries;             /* rows, expired ones too */
     uint64_t row_words, free_words; /* of the rows' blocks, and of the gaps */
 } cache_counts;
 
-/* All are 0 where the handle is null. */
+/* An expunge drops all rows, since no gap was large enough for a new one, not even after the expired
+ * rows were dropped. After it hits, misses and inserts count from 0. All counts are 0 at a null. */
 static inline cache_counts cache_get_counts(uint8_t *at);
 
 /* A row. Moments are in seconds; sizes and places in words. */

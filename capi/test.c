@@ -10,6 +10,70 @@
 #include <sys/mman.h>
 #include <sys/resource.h>
 
+/* The numbers and the layouts of the header are those that the library promises by header_is_right. */
+#define AT(type, field, place) _Static_assert(offsetof(type, field) == (place), #type "." #field)
+#define IS(number, value) _Static_assert((number) == (value), #number)
+
+IS(CACHE_STORE, 0);
+IS(CACHE_ADD, 1);
+IS(CACHE_LOOK, 2);
+IS(CACHE_EXISTS, 3);
+IS(CACHE_DELETE, 4);
+IS(CACHE_COUNT, 5);
+IS(CACHE_SWAP, 6);
+IS(CACHE_CLEAR, 7);
+IS(CACHE_HOLD, 8);
+IS(CACHE_NULL, 0);
+IS(CACHE_BOOL, 1);
+IS(CACHE_INT, 2);
+IS(CACHE_STR, 3);
+IS(CACHE_OTHER, 4);
+IS(CACHE_ABSENT, 5);
+IS(CACHE_NO, 6);
+IS(CACHE_YES, 7);
+IS(CACHE_NO_NUMBER, 8);
+IS(CACHE_BAD, 9);
+IS(CACHE_TOO_LONG, 10);
+IS(CACHE_MADE, 0);
+IS(CACHE_BAD_SHAPE, 1);
+IS(CACHE_NO_ROOM, 2);
+IS(CACHE_SEATS, 64);
+IS(sizeof(cache_shape), 16);
+AT(cache_shape, slots, 4);
+AT(cache_shape, ttl, 8);
+AT(cache_shape, segments, 12);
+IS(sizeof(cache_request), 40);
+AT(cache_request, value, 4);
+AT(cache_request, ttl, 8);
+AT(cache_request, t, 16);
+AT(cache_request, number, 24);
+AT(cache_request, set, 32);
+IS(sizeof(cache_answer), 24);
+AT(cache_answer, place, 4);
+AT(cache_answer, number, 8);
+AT(cache_answer, len, 16);
+IS(sizeof(cache_counts), 56);
+AT(cache_counts, misses, 8);
+AT(cache_counts, inserts, 16);
+AT(cache_counts, expunges, 24);
+AT(cache_counts, entries, 32);
+AT(cache_counts, row_words, 40);
+AT(cache_counts, free_words, 48);
+IS(sizeof(cache_row), 88);
+AT(cache_row, slot, 4);
+AT(cache_row, key_place, 8);
+AT(cache_row, key_len, 12);
+AT(cache_row, ttl, 16);
+AT(cache_row, size, 20);
+AT(cache_row, ctime, 24);
+AT(cache_row, mtime, 32);
+AT(cache_row, atime, 40);
+AT(cache_row, dtime, 48);
+AT(cache_row, hits, 56);
+AT(cache_row, value, 64);
+IS(sizeof(cache_gap), 8);
+AT(cache_gap, size, 4);
+
 static unsigned passed, failed;
 
 #define WANT(condition) want(condition, __LINE__, #condition)

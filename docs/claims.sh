@@ -108,6 +108,8 @@ class Source:
 
     def has_test(self, name):
         """A test; a file, which means its tests; or a crate: all its tests, or the stored run of a program."""
+        if name.endswith(".c"):
+            return os.path.isfile(name)
         return name in self.tests or name in self.files or "::" not in name \
             and (any(test.startswith(f"{name}::") for test in self.tests) or os.path.isfile(f"crates/{name}/stdin"))
 

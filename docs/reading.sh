@@ -27,6 +27,19 @@ SPINE = [
     ("reply_text/Output", "the text of an output", None),
     ("reply_text/Lines", "the text of a call", None),
 ]
+# The library for C: its call, and what is read of it in an hour, down to what the list above has.
+LIBRARY, CALL = "crates/cache_c/src/lib.rt", "cache_ask_unchecked"
+LIBRARY_SPINE = [
+    ("cache_c/Memory", "what is at a pointer, before a call and after it", ["lies", "stands_at", "has_asked"]),
+    ("cache_c/Asked", "the request that the numbers of C ask for, and what an answer says",
+        ["scalar_value", "value_of", "store_if_value", "request_of", "is_short", "asked_for", "IsValueBy", "IsToldBy",
+         "IsDone", "IsNoRequest", "IsAnswered", "TakesSeat", "KeepsSeats"]),
+    ("cache_c/Standing", "when words are a cache, and which string a seat holds",
+        ["cache_words", "seats_of", "StandsForCache", "HasDone", "StandAt", "IsHeld"]),
+    ("cache_c/Seats", "the image that a seat holds", None),
+    ("cache_core/CoreCache", "the cache that the words of a segment are", None),
+    ("cache_core/Events", "what an event answers and leaves", ["IsBy", "IsStep", "Does"]),
+]
 # The other files, by what a reader needs them for.
 SUBJECTS = {
     "What lines mean": "apcu_play/Inputs script_read/Grammar script_read/Table script_read/Arguments script_read/Calls "
@@ -333,6 +346,26 @@ def clause_span(path):
     return begin + 1, end + 1
 
 
+def library():
+    """The rows of the library for C, how many lines they have, and how many all that its call's clauses reach."""
+    lines = open(LIBRARY, encoding="utf-8").read().split("\n")
+    head = next(at for at, line in enumerate(lines) if f" fn {CALL}(" in line)
+    begin = next(at for at in range(head, len(lines)) if lines[at].startswith("    requires"))
+    end = lines.index("{", begin)
+    reading, file = Reading(), File(LIBRARY)
+    file.parts = {}
+    reading.take(file, Part(lines[begin:end]))
+    rows, total = f"| [`cache_c/src/lib.rt`](../{LIBRARY}) | {begin + 1}-{end} | the clauses |\n", end - begin
+    for name, about, words in LIBRARY_SPINE:
+        parts = [part for part in reading.words.get(path_of(name), [])
+                 if words is None or any(reading.files[path_of(name)].parts.get(word) is part for word in words)]
+        if not parts or words is not None and len(parts) != len(words):
+            sys.exit(f"docs/reading.sh: {CALL} does not reach all that is named of {name}")
+        total += sum(part.lines for part in parts)
+        rows += f"| {link(name)} | {spans(parts)} | {about} |\n"
+    return rows, total, lines_of(reading, list(reading.words)), len(reading.words)
+
+
 def spine(root, played):
     begin, end = clause_span(root)
     rows = f"| [`{CRATE}/src/{os.path.basename(root)}`](../{root}) | {begin}-{end} | the clause |\n"
@@ -383,6 +416,7 @@ def page(old):
     for path, names in sorted(reading.types.items()):
         types.setdefault(path.split("/")[1], []).append(
             f"`{path.split('/src/')[1]}` ({', '.join(f'`{name}`' for name in sorted(names))})")
+    library_rows, library_total, reached, reached_files = library()
     typed = "".join(f"- `{crate}`: {', '.join(files)}\n" for crate, files in types.items())
     return f"""# What to read
 
@@ -420,6 +454,22 @@ The kit's `ANTT.md` and `CONTRACTS.md` have the rest; [GLOSSARY.md](GLOSSARY.md)
 | file | lines | what they say |
 |---|---|---|
 {rows}
+## The library for C
+
+`{CALL}` is the call by which C asks for an event. Its clauses rest on {reached:,} lines in {few(reached_files, "file")}: \
+the {library_total} of this table first, and then the files of *An hour* from `apcu_model/History` on. The other exports are \
+read alike: a clause of `crates/cache_c/src/lib.rt`, and what it names of `cache_c/Memory`.
+
+- A clause with a star is of separation logic: `sem 𝓛 F` says that the formula `F` holds of the memory that the call owns. \
+`fsep F G`: `F` of one part of it and `G` of another. `fex A (λ x. F)`: there is an `x` in `A` with `F`. `ftrue` holds of any \
+memory, so `fex P (λ _. ftrue)` is the statement `P`.
+- `lies_at T full_share p x`: the value `x` of type `T` is at the pointer `p`, and the call owns all of it. `room_at T p` is \
+memory for one. `the_row` is the type of the struct that its import names.
+- `ghost cache: {{ .. }}` names what is there before the call. It is no argument of C.
+
+| file | lines | what they say |
+|---|---|---|
+{library_rows}
 ## By need
 
 A number is that of the lines reached beside the hour's. A star: `{MAIN}` does not reach the file.

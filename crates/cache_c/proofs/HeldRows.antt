@@ -151,6 +151,7 @@ let_go {old} {new} seat low all core words seats = record {
   words = words;
   some = sym (lt-ltb seat 64 low);
   empty = λ _. ap (λ (l : List ℕ). slice_index l seat) seats ∙ get_or-set_same (seats_of old) seat 0 0 (omega (arith, low, all));
+  seats = seats;
   others = λ other place bytes apart h. held_beside seat 0 words seats other place bytes apart h;
 }
 
@@ -160,5 +161,6 @@ no_seat cache seat high = record {
   words = refl;
   some = sym (false_from_ne_true (nat_lt seat 64) (λ t. omega (arith, ltb-true seat 64 t, high)));
   empty = λ yes. absurd (false≢true yes);
+  seats = refl;
   others = λ other place bytes apart h. h;
 }

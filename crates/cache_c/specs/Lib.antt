@@ -1,4 +1,5 @@
 pub mod Asked
+pub mod Header
 pub mod Made
 pub mod Memory
 pub mod Seats

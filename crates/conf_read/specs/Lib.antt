@@ -1,4 +1,5 @@
 pub mod Command
+pub mod Limits
 pub mod Numbers
 pub mod Options
 pub mod Tasks

@@ -8,3 +8,5 @@ pub mod PinnedFetches
 pub mod LearnedEnds
 pub mod ClosedCaches
 pub mod OpenedCaches
+pub mod Meeting
+pub mod Turns

@@ -16,6 +16,7 @@
 
 mod answering;
 mod asking;
+mod laws;
 mod locked_cache;
 mod lower;
 mod opening;
@@ -25,6 +26,7 @@ mod texts;
 mod under_lock;
 mod wait_lock;
 
+pub use laws::calls_in_turn;
 pub use locked_cache::{Closed, Pinned};
 pub use opening::{Fresh, OpenFault, open_cache};
 pub use shared::Shared;

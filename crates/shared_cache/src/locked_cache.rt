@@ -10,6 +10,7 @@ ghost use Rattle.shared_cache.specs.LockInvariant.{Settled};
 ghost use Rattle.shared_cache.specs.Follows.{Follows};
 ghost use Rattle.shared_cache.specs.PinnedFetches.{IsFetched};
 ghost use Rattle.shared_cache.specs.LearnedEnds.{Learns};
+ghost use Rattle.shared_cache.specs.Meeting.{Sees, Meets};
 ghost use Rattle.pin_table.specs.Lists.{AllOf, known_list};
 ghost use Rattle.pin_table.specs.Views.{has_worker};
 ghost use Rattle.shared_cache.specs.ClosedCaches.{IsClosed, IsClosedWhole};
@@ -263,6 +264,30 @@ impl<N: TableName> LockedCache<N> {
         let ended = table.learn(&mut self.seat, ended);
         let w = table.writer(&mut self.seat, pass);
         (w.give_seen(), ended)
+    }
+
+    // The pass sees all events so far.
+    pub(crate) fn see(&mut self, table: &PinTable, pass: Pass) -> Pass
+        requires table { table.now ≡ N.table }
+        requires pass { MayAsk N.table 1 pass }
+        ensures sees { Sees N.conf (length N.budgets) pass result self.old }
+        ensures same { self.new ≡ self.old }
+    {
+        lower_laws();
+        let w = table.writer(&mut self.seat, pass);
+        w.give_seen()
+    }
+
+    // Both passes see all events so far, those among them that the other one has seen.
+    pub(crate) fn meet(&mut self, table: &PinTable, pass: Pass, other: Pass) -> (Pass, Pass)
+        requires table { table.now ≡ N.table }
+        requires pass { MayAsk N.table 1 pass }
+        requires other { MayAsk N.table 1 other }
+        ensures { Meets N.conf (length N.budgets) pass other result.0 result.1 }
+    {
+        let pass = self.see(table, pass);
+        let other = self.see(table, other);
+        (pass, other)
     }
 
     // The journal and the counts, once every worker has ended. No word is copied.

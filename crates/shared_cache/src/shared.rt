@@ -13,6 +13,7 @@ ghost use Rattle.shared_cache.specs.Asking.{MayAsk};
 ghost use Rattle.shared_cache.specs.Follows.{Follows};
 ghost use Rattle.shared_cache.specs.PinnedFetches.{IsFetched};
 ghost use Rattle.shared_cache.specs.LearnedEnds.{Learns};
+ghost use Rattle.shared_cache.specs.Meeting.{Meets};
 ghost use Rattle.pin_table.specs.Lists.{AllOf, known_list};
 ghost use Rattle.pin_table.specs.Views.{has_worker};
 ghost use Rattle.shared_cache.specs.ClosedCaches.{IsClosed, IsClosedWhole};
@@ -295,6 +296,17 @@ impl<N: TableName> Shared<N> {
         ensures same { result.1 ≡ ended }
     {
         locked(&self.lock, rt).learn(&self.table, pass, ended)
+    }
+
+    /// Has two workers see all events so far, each those among them that the other one has seen. It
+    /// is no event. It changes only what contracts say of the passes: it is for proofs that what
+    /// either does next comes after all that both have done.
+    pub fn meet<R: Wait>(&self, rt: &R, pass: Pass, other: Pass) -> (Pass, Pass)
+        requires pass { MayAsk N.table 1 pass }
+        requires other { MayAsk N.table 1 other }
+        ensures { Meets N.conf (length N.budgets) pass other result.0 result.1 }
+    {
+        locked(&self.lock, rt).meet(&self.table, pass, other)
     }
 
     /// Gives the journal and the counts, once every worker has ended: `ended` has the end of each,

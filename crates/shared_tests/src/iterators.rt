@@ -4,10 +4,10 @@ ghost use Rattle.std.specs.Prelude.{◌≡◌, ◌+◌, ◌≤◌, [], ◌∷◌
 
 use crate::copies::{CONF, array, begin_copy, end_copy, opened};
 use crate::steps::put;
-use row_search::{RefuseAll, Search};
 use apcu_model::{Chunk, Fields, List, integer};
 use php_graph::Graph;
 use pin_table::{Pass, TableName};
+use row_search::{RefuseAll, Search};
 use shared_cache::{Fresh, Shared, open_cache};
 use std::alloc::Global;
 use std::marker::Brand;

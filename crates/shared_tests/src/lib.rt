@@ -17,6 +17,8 @@ mod meeting;
 #[cfg(test)]
 mod readme;
 #[cfg(test)]
+mod rounds;
+#[cfg(test)]
 mod steps;
 #[cfg(test)]
 mod texts;

@@ -24,7 +24,6 @@ use crate::events::{
 use crate::noting::{note_there, note_undone, note_value, write_found};
 use crate::pools::play_pool;
 use crate::walks::{delete_found, walk_active, walk_deleted};
-use row_search::Search;
 use apcu_model::List;
 use io_edges::Gate;
 use notation::ByteOut;
@@ -34,6 +33,7 @@ use reply_text::{
     Notes, write_each, write_flag, write_flags, write_gave, write_info, write_number,
     write_numbered, write_totals,
 };
+use row_search::Search;
 use script_read::Call;
 use std::alloc::AllocError;
 use std::sync::Wait;

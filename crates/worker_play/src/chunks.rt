@@ -7,11 +7,11 @@ ghost use Rattle.shared_cache.specs.Asking.{MayAsk};
 ghost use Rattle.worker_play.specs.Goes.{wish, KnowsOwnEvents, GoesOn};
 
 use crate::context::{Context, When};
-use row_search::Search;
 use apcu_model::{Chunk, Fields, List};
 use io_edges::{Gate, Point};
 use pin_table::{Pass, TableName};
 use play_laws::one_event_own;
+use row_search::Search;
 use std::alloc::AllocError;
 use std::sync::Wait;
 

@@ -11,12 +11,12 @@ ghost use Rattle.worker_play.specs.declared.script.PlayFault.TheVariants.{Patter
 
 use crate::context::Context;
 use crate::script::{Lines, PlayFault, play_lines};
-use row_search::Maker;
 use apcu_model::Clock;
 use io_edges::Gate;
 use notation::ByteOut;
 use pin_table::{Ended, Pass, TableName};
 use play_laws::one_event_own;
+use row_search::Maker;
 use script_read::Steps;
 use std::sync::Wait;
 

@@ -16,12 +16,12 @@ ghost use Rattle.worker_play.specs.declared.script.PlayFault.TheVariants.{Memory
 
 use crate::context::{Context, When};
 use crate::searching::play_call;
-use row_search::Maker;
 use apcu_model::{Clock, Conf};
 use io_edges::{Gate, Point};
 use notation::ByteOut;
 use pin_table::{Pass, TableName};
 use play_laws::one_event_own;
+use row_search::Maker;
 use script_read::{AsStep, Call, Script, ScriptSteps, Steps};
 use shared_cache::Shared;
 use std::alloc::{AllocError, Global};
@@ -112,8 +112,8 @@ fn leave(out: &mut ByteOut, lines: Lines)
 }
 
 /// Plays these steps as `play_script` does those of a script, and gives what is left of the lines.
-/// Where they are dropped, what it takes of memory does not grow with the replies. The gate is told
-/// of the same points.
+/// If they are dropped, memory does not grow with the replies, which no clause says. The gate is
+/// told of the same points.
 ///
 /// At `Ok` its worker has asked in turn what the steps want, and nothing is left but its end.
 pub fn play_lines<N: TableName, M: Maker + Sync, G: Gate, R: Wait, S: Steps + Drop>(

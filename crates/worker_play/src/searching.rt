@@ -14,10 +14,10 @@ use crate::calls::{play_directly, play_searching};
 use crate::context::{Context, When};
 use crate::patterns::search_of;
 use crate::script::PlayFault;
-use row_search::Maker;
 use io_edges::Gate;
 use notation::ByteOut;
 use pin_table::{Pass, TableName};
+use row_search::Maker;
 use script_read::Call;
 use std::sync::Wait;
 

@@ -15,12 +15,12 @@ ghost use Rattle.worker_play.specs.Turns.{asks_at, steps_at};
 
 use crate::chunks::{chunk, chunk_delete};
 use crate::context::{Context, When};
-use row_search::Search;
 use apcu_model::{Chunk, Fields, List, Reply};
 use io_edges::Gate;
 use notation::ByteOut;
 use pin_table::{Pass, TableName};
 use reply_text::{write_flag, write_walk};
+use row_search::Search;
 use std::alloc::AllocError;
 use std::sync::Wait;
 

@@ -21,5 +21,5 @@ invariant-loop-index g l =
       whole : KnowsOwnEvents l.held;
       left : events_in conf.slots rest < l.held.known.left;
       text : left_of l.lines l.out ≡ l.out;
-      midway : Midway conf (length g.N.TableName.budgets) l.fn.pass l.held (turns_of conf (timed l.clock all)) (turns_of conf (timed l.clock rest)) (λ replies. left_of l.lines (script_lines conf (timed l.clock all) replies)) (λ later. left_of l.lines (l.out ++ script_lines conf (timed l.clock rest) later));
+      midway : Midway conf (length g.N.TableName.budgets) l.fn.pass l.held (turns_of conf (timed l.fn.clock all)) (turns_of conf (timed l.fn.clock rest)) (λ replies. left_of l.lines (script_lines conf (timed l.fn.clock all) replies)) (λ later. left_of l.lines (l.out ++ script_lines conf (timed l.fn.clock rest) later));
     }
