@@ -116,3 +116,76 @@ impl Segment for LateWords {
         true
     }
 }
+
+/// Words of which those behind the first ones are 0, on loan for one call that writes none of them.
+///
+/// Others may read the words at the same time. No window is ever open.
+pub struct LentWords<'a> {
+    // The first words.
+    written: &'a [u64],
+    // How many words there are.
+    len: u32,
+    ghost within: { length written.now ≤ len },
+    ghost short: { len < 2 ^ 32 },
+}
+
+impl<'a> LentWords<'a> {
+    /// `len` words, of which these are the first, and the others are 0.
+    pub fn of(written: &'a [u64], len: u32) -> LentWords<'a>
+        requires within { length written.now ≤ len }
+        ensures { ⟦<LentWords<'a> as WordsIn>⟧.words result ≡ with_zeros written.now len }
+    {
+        LentWords { written, len }
+    }
+}
+
+impl WordsIn for LentWords<'_> {
+    type Rest = ();
+
+    ghost words = { λ s. with_zeros s.written.now s.len };
+
+    ghost aside = { λ _. nothing_aside };
+
+    ghost rest = { λ _. tt };
+
+    ghost short = { λ s. short_with s.written.now s.len s.within s.short };
+
+    fn len(&self) -> u32 {
+        self.len
+    }
+
+    fn load(&mut self, i: u32) -> u64 {
+        let at = i as usize;
+        if at < self.written.len() {
+            return self.written[at];
+        }
+        0
+    }
+
+    fn load_eight(&mut self, i: u32) -> [u64; 8] {
+        let at = i as usize;
+        let words = self.written;
+        if at + 8 <= words.len() {
+            return [
+                words[at],
+                words[at + 1],
+                words[at + 2],
+                words[at + 3],
+                words[at + 4],
+                words[at + 5],
+                words[at + 6],
+                words[at + 7],
+            ];
+        }
+        [
+            self.load(i),
+            self.load(i + 1),
+            self.load(i + 2),
+            self.load(i + 3),
+            self.load(i + 4),
+            self.load(i + 5),
+            self.load(i + 6),
+            self.load(i + 7),
+        ]
+    }
+}

@@ -4,4 +4,4 @@
 
 mod late_words;
 
-pub use late_words::LateWords;
+pub use late_words::{LateWords, LentWords};
