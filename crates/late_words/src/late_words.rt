@@ -171,25 +171,26 @@ impl WordsIn for LentWords<'_> {
 
     fn load(&mut self, i: u32) -> u64 {
         let at = i as usize;
-        if at < self.written.len() {
-            return self.written[at];
+        let written = self.written;
+        if at < written.len() {
+            return written[at];
         }
         0
     }
 
     fn load_eight(&mut self, i: u32) -> [u64; 8] {
         let at = i as usize;
-        let words = self.written;
-        if at + 8 <= words.len() {
+        let written = self.written;
+        if at + 8 <= written.len() {
             return [
-                words[at],
-                words[at + 1],
-                words[at + 2],
-                words[at + 3],
-                words[at + 4],
-                words[at + 5],
-                words[at + 6],
-                words[at + 7],
+                written[at],
+                written[at + 1],
+                written[at + 2],
+                written[at + 3],
+                written[at + 4],
+                written[at + 5],
+                written[at + 6],
+                written[at + 7],
             ];
         }
         [
