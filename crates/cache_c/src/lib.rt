@@ -12,9 +12,9 @@ mod scalars;
 mod seat_words;
 mod values;
 
-ghost use Rattle.std.specs.Prelude.{◌≡◌, ℕ, List};
+ghost use Rattle.std.specs.Prelude.{◌≡◌, ◌≤◌, ℕ, List};
 ghost use denote.Param.{layout};
-ghost use prog.Memory.{size};
+ghost use prog.Memory.{align, size};
 ghost use Rattle.cache_c.specs.contracts.cache.Cache.{the_row};
 ghost use types.Logic.{sem};
 ghost use base.Fml.{fsep};
@@ -34,10 +34,11 @@ use making::{MADE, made};
 pub use rows::ToldRow;
 use std::alloc::Global;
 
-/// How many bytes a cache takes beside its words, aligned as 16.
+/// How many bytes a cache takes beside its words. It is aligned as 16 bytes at most.
 #[unsafe(no_mangle)]
 pub extern "C" fn cache_size() -> usize
-    ensures { result ≡ size (layout the_row) }
+    ensures size { result ≡ size (layout the_row) }
+    ensures align { align (layout the_row) ≤ 16 }
 {
     std::mem::size_of::<Cache>()
 }
