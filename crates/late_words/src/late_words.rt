@@ -25,7 +25,7 @@ pub struct LateWords {
 }
 
 impl LateWords {
-    /// So many words, each 0. None of them is written.
+    /// `len` words, each 0. None of them is written.
     pub fn new(alloc: Global, len: u32) -> Result<LateWords, AllocError>
         ensures words { IfOk result (λ v. ⟦<LateWords as WordsIn>⟧.words v ≡ replicate len 0) }
         ensures unwritten { IfOk result (λ v. v.written.items ≡ []) }
@@ -50,7 +50,7 @@ impl LateWords {
 }
 
 impl WordsIn for LateWords {
-    // Where the memory of the words begins.
+    // The address of the first word.
     type Rest = *const u64;
 
     ghost words = { λ s. with_zeros s.written.items s.len };
