@@ -34,7 +34,10 @@ impl LateWords {
         Ok(LateWords { written, len })
     }
 
-    // Writes zeros up to the word at `at`. There is memory for them, so none is taken.
+    // Writes zeros up to the word at `at`. There is memory for them, so none is taken. It is apart
+    // so that a store among words that are written is inlined.
+    #[cold]
+    #[inline(never)]
     fn pad(&mut self, at: usize)
         requires order { vec_len self.old.written ≤ at }
         requires inside { at ≤ self.old.len }
