@@ -3,6 +3,7 @@
 # `test` makes each call, with each null too, `reads` looks up by many and counts later, `forked` has eight processes that count to a million and 300 that are
 # killed, `copies` reads outside of the lock while others store, `deaths` kills one behind instruction after instruction, `locks` the same at the lock alone, and `full` fills
 # 2 GB of words and reads them back. The last line is 'N passed, N failed'; what this machine or this library can't do is skipped and said.
+# `memory` looks at what calls do with memory.
 # Usage: capi/run.sh [--quick]; --quick leaves out the 2 GB and `locks`. CACHE_C_LIB=FILE in the environment is the
 # library; else ../prove proves and builds it.
 set -eu -o pipefail
@@ -45,6 +46,8 @@ for program in test forked copies deaths full; do
     cc "${flags[@]}" "$here/$program.c" "$here/shared_cache.c" "$library" -lpthread -o "$scratch/$program"
 done
 cc "${flags[@]}" "$here/reads.c" "$library" -o "$scratch/reads"
+# It has an allocator of its own.
+cc "${flags[@]}" "$here/memory.c" "$library" -o "$scratch/memory"
 # No step is the loader's.
 cc "${flags[@]}" "$here/locks.c" -lpthread -Wl,-z,now -o "$scratch/locks"
 pass 'each program is compiled without a warning'
@@ -58,6 +61,7 @@ fi
 run 60 test '[1-9][0-9]* passed, 0 failed'
 run 60 'test nulls' '[1-9][0-9]* passed, 0 failed'
 run 60 reads '[1-9][0-9]* passed, 0 failed'
+run 60 memory '.*, [1-9][0-9]* expunges, .*; 0 calls did otherwise'
 run 300 'forked 125000 300' '8 children counted to 1000000 of 1000000' '300 kills: .*' \
     '0 children read a torn text .*'
 run 120 'copies 300' '[1-9][0-9]* copies were whole, .*, 0 were torn'

@@ -29,7 +29,7 @@ use Rattle.cache_c.specs.declared.values.TheConstants as values
 use Rattle.cache_c.specs.Seats.{HeldImage, held_image}
 use Rattle.cache_c.specs.declared.asking.Ask.{Ask}
 use Rattle.cache_c.specs.declared.asking.TheConstants as asking
-use Rattle.cache_c.specs.Standing.{StandsForCache, IsHeld, LeavesHeld, StandAt, cache_words, seats_of}
+use Rattle.cache_c.specs.Standing.{StandsForCache, IsHeld, LeavesHeld, StandAt, cache_words, words_memory, seats_of}
 use Rattle.cache_c.specs.Asked.{IsValueBy, IsBlockOf, TakesSeat, KeepsSeats, HasLetGo}
 use Rattle.cache_c.proofs.Standing.{words_short, held_beside}
 use Rattle.cache_c.proofs.Seats.{image_words}
@@ -125,10 +125,11 @@ held_taken {mid} {new} seat at a low all some text block words seats bytes count
     }
 
 pub seats_kept : {old mid new : Cache} (ask : Ask) (seat least at : ℕ) (a : Answer) → ask.kind ≡ asking.HOLD → ask.number ≡ seat → ask.set ≡ least → seat < 64 → a.kind ≡ values.STR → least ≤ a.len → length (seats_of mid) ≡ 64 → 0 < at
-    → LeavesHeld old mid → IsBlockOf mid at a → cache_words new ≡ cache_words mid → seats_of new ≡ slice_set (seats_of mid) seat at → KeepsSeats ask old new a
-seats_kept {old} {mid} {new} ask seat least at a kind number set low text long all some left block words seats =
+    → LeavesHeld old mid → IsBlockOf mid at a → words_memory new ≡ words_memory mid → cache_words new ≡ cache_words mid → seats_of new ≡ slice_set (seats_of mid) seat at → KeepsSeats ask old new a
+seats_kept {old} {mid} {new} ask seat least at a kind number set low text long all some left block memory words seats =
     let takes : (other : ℕ) → other ≡ seat → TakesSeat ask a other = λ other e. record { hold = kind; number = number ∙ sym e; some = omega (arith, e, low); text = text; long = omega (arith, set, long) } in
     record {
+      memory = memory ∙ left.memory;
       taken = λ other bytes takes count stand.
           let e : other ≡ seat = sym takes.number ∙ number in
           subst (λ (n : ℕ). IsHeld new n a.place bytes) (sym e) (held_taken {mid = mid} {new = new} seat at a low all some text block words seats bytes count stand);
@@ -139,14 +140,16 @@ seats_kept {old} {mid} {new} ask seat least at a kind number set low text long a
 -- none is
 pub seats_left : {old new : Cache} (ask : Ask) (a : Answer) → ((seat : ℕ) → TakesSeat ask a seat → ⊥) → LeavesHeld old new → KeepsSeats ask old new a
 seats_left ask a none left = record {
+  memory = left.memory;
   taken = λ seat bytes takes count stand. absurd (none seat takes);
   others = λ seat place bytes no h. left.held seat place bytes h;
   seats = λ seat no. ap (λ (l : List ℕ). slice_index l seat) left.seats;
 }
 
 -- a seat is let go
-pub let_go : {old new : Cache} (seat : ℕ) → seat < 64 → length (seats_of old) ≡ 64 → new.core ≡ old.core → cache_words new ≡ cache_words old → seats_of new ≡ slice_set (seats_of old) seat 0 → HasLetGo old new seat true
-let_go {old} {new} seat low all core words seats = record {
+pub let_go : {old new : Cache} (seat : ℕ) → seat < 64 → length (seats_of old) ≡ 64 → new.core ≡ old.core → words_memory new ≡ words_memory old → cache_words new ≡ cache_words old → seats_of new ≡ slice_set (seats_of old) seat 0 → HasLetGo old new seat true
+let_go {old} {new} seat low all core memory words seats = record {
+  memory = memory;
   core = core;
   words = words;
   some = sym (lt-ltb seat 64 low);
@@ -157,6 +160,7 @@ let_go {old} {new} seat low all core words seats = record {
 
 pub no_seat : (cache : Cache) (seat : ℕ) → 64 ≤ seat → HasLetGo cache cache seat false
 no_seat cache seat high = record {
+  memory = refl;
   core = refl;
   words = refl;
   some = sym (false_from_ne_true (nat_lt seat 64) (λ t. omega (arith, ltb-true seat 64 t, high)));

@@ -14,7 +14,7 @@ ghost use Rattle.seg_words.specs.Blocks.{image_place};
 ghost use Rattle.cache_core.specs.Looking.{scalar_of, IsRowOf};
 ghost use Rattle.cache_core.specs.CoreCache.{cache_of};
 ghost use Rattle.cache_c.specs.Standing.{StandsForCache, LeavesHeld, StandsUnchanged, BeginsEvent};
-ghost use Rattle.cache_c.specs.Standing.{cache_words, seats_of};
+ghost use Rattle.cache_c.specs.Standing.{cache_words, seats_of, words_memory};
 ghost use Rattle.cache_c.specs.Asked.{asked_for, request_of, store_if_value, value_of};
 ghost use Rattle.cache_c.specs.Asked.{scalar_value};
 ghost use Rattle.cache_c.specs.Asked.{IsAnswered, IsDone, IsToldBy, IsValueBy, IsScalarBy};
@@ -368,6 +368,7 @@ impl Cache {
         ensures stand { StandsForCache self.new }
         ensures core { self.new.core ≡ self.old.core }
         ensures words { cache_words self.new ≡ cache_words self.old }
+        ensures memory { words_memory self.new ≡ words_memory self.old }
         ensures seats { seats_of self.new ≡ slice_set (seats_of self.old) seat at }
     {
         self.words.hold(seat, at);

@@ -14,9 +14,9 @@ mod seat_words;
 mod shared;
 mod values;
 
-ghost use Rattle.std.specs.Prelude.{◌≡◌, ℕ, List};
+ghost use Rattle.std.specs.Prelude.{◌≡◌, ◌≤◌, ℕ, List};
 ghost use denote.Param.{layout};
-ghost use prog.Memory.{size};
+ghost use prog.Memory.{align, size};
 ghost use Rattle.cache_c.specs.contracts.cache.Cache.{the_row};
 ghost use types.Logic.{sem};
 ghost use Rattle.php_graph.specs.Numbers.{hash_of};
@@ -42,10 +42,11 @@ use shared::find_shared;
 pub use shared::{Found, View};
 use std::alloc::Global;
 
-/// How many bytes a cache takes beside its words, aligned as 16.
+/// How many bytes a cache takes beside its words. It is aligned as 16 bytes at most.
 #[unsafe(no_mangle)]
 pub extern "C" fn cache_size() -> usize
-    ensures { result ≡ size (layout the_row) }
+    ensures size { result ≡ size (layout the_row) }
+    ensures align { align (layout the_row) ≤ 16 }
 {
     std::mem::size_of::<Cache>()
 }

@@ -3,6 +3,7 @@
 ghost use Rattle.std.specs.Prelude.{◌≡◌, ℕ, ◌+◌, ◌-◌, ◌<◌, ◌≤◌, ◌^◌, true, false, List, drop};
 ghost use Rattle.std.specs.Prelude.{[], replicate, count_by, slice_set, slice_index, map};
 ghost use Rattle.std.specs.Borrow.{ftrue};
+ghost use denote.RawPtr.{Ptr};
 ghost use Rattle.seg_words.specs.Windows.{has, is_named};
 ghost use Rattle.late_words.specs.Zeros.{short_with};
 ghost use Rattle.cache_c.specs.Seats.{HeldImage, held_image};
@@ -14,10 +15,12 @@ use std::marker::Model;
 /// How many seats there are.
 pub const SEATS: u32 = 64;
 
-/// What is held: for each seat the place of a block or 0, and its image. It exists only in proofs.
+/// What is held: for each seat the place of a block or 0, and its image; and where the memory of
+/// the words begins. It exists only in proofs.
 pub struct Held {
     ghost seats: { List ℕ },
     ghost images: { List HeldImage },
+    ghost memory: { Ptr },
 }
 
 impl Model for Held {
@@ -100,7 +103,8 @@ fn is_named(seats: &[u32], at: u32) -> bool
 }
 
 impl WordsIn for SeatWords {
-    // What is held: so no call of these traits changes a word of an image that a seat holds.
+    // What is held, and where: so no call of these traits changes a word of an image that a seat
+    // holds, and none moves the words to other memory.
     type Rest = Held;
 
     ghost words = { λ s. ⟦<LateWords as WordsIn>⟧.words s.late };
@@ -111,6 +115,7 @@ impl WordsIn for SeatWords {
     ghost rest = { λ s. record {
       seats = s.seats;
       images = map (held_image (⟦<LateWords as WordsIn>⟧.words s.late)) s.seats;
+      memory = ⟦<LateWords as WordsIn>⟧.rest s.late;
     } };
 
     ghost short = { λ s. short_with s.late.written.items s.late.len s.late.within s.late.short };

@@ -1,6 +1,6 @@
 -- Runs of words that are written, by what the crate below says of them.
-use Rattle.std.proofs.Common.{◌≡◌, ℕ, ◌+◌, ◌<◌, ◌≤◌, List, [], ◌∷◌, ◌++◌, length, take, get_or, slice_set, sym, ap, ap₂, ◌∙◌, subst, arith}
-use Rattle.std.proofs.lemmas.List.{take_more, length-take-le}
+use Rattle.std.proofs.Common.{◌≡◌, ℕ, ◌+◌, ◌<◌, ◌≤◌, List, [], ◌∷◌, ◌++◌, length, take, drop, get_or, slice_set, sym, ap, ap₂, ◌∙◌, subst, arith}
+use Rattle.std.proofs.lemmas.List.{take_more, length-take-le, drop-drop}
 use Rattle.std.proofs.lemmas.List.FromFn.{get_or-map-range_with_len, length-map-range_with_len}
 use Rattle.seg_words.specs.Windows.{Aside}
 use Rattle.seg_words.specs.Blocks.{MayStore}
@@ -37,6 +37,11 @@ may_write_along law row old at n run row' new b m h ew ea eb le =
 pub written_along : Laws → (row : List ℕ) (at : ℕ) (xs ys row' row'' : List ℕ) (b : ℕ) → row' ≡ written row at xs → row'' ≡ written row' b ys → b ≡ at + length xs → row'' ≡ written row at (xs ++ ys)
 written_along law row at xs ys row' row'' b e f eb =
     f ∙ (ap (λ (r : List ℕ). written r b ys) e ∙ (ap (λ (k : ℕ). written (written row at xs) k ys) eb ∙ sym (law.written.joined row at xs ys)))
+
+-- eight words that are stored at once are such a run
+pub eight_written : Laws → (row : List ℕ) (at : ℕ) (run row' : List ℕ) → length run ≡ 8 → at + 8 ≤ length row → row' ≡ take at row ++ (run ++ drop (at + 8) row) → row' ≡ written row at run
+eight_written law row at run row' count inside is =
+    is ∙ sym (law.written.cut row at run (omega (arith, count, inside)) ∙ ap (λ (r : List ℕ). take at row ++ (run ++ r)) (ap (λ (n : ℕ). drop n (drop at row)) count ∙ drop-drop 8 at row))
 
 -- the next word of a run that is being written may be stored
 pub may_store_next : Laws → (row windows : List ℕ) (at i : ℕ) (run : List ℕ) → MayWrite row windows at (length run) → i < length run

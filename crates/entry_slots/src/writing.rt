@@ -1,6 +1,6 @@
 //! Writing the block of an entry.
 
-ghost use Rattle.std.specs.Prelude.{◌≡◌, ◌+◌, ◌<◌, ◌^◌, length};
+ghost use Rattle.std.specs.Prelude.{◌≡◌, ◌+◌, ◌<◌, ◌^◌, ◌++◌, length};
 ghost use Rattle.seg_words.specs.Kept.{KeptBeside};
 ghost use Rattle.seg_words.specs.Layout.{words_in};
 ghost use Rattle.php_graph.specs.Graph.{IsGraph};
@@ -51,13 +51,21 @@ pub(crate) fn put_entry<S: Segment>(
         new_head.now,
         new_head.now,
         0,
-        0,
-        new_head.number,
-        0,
     ];
-    put_words(seg, at + 1, &first);
+    put_head(seg, at + 1, &first, &[0, new_head.number, 0]);
     put_bytes(seg, at + HEAD_WORDS, key);
     persist_content(seg, at + HEAD_WORDS + words_in(key.len() as u32), content);
+}
+
+// Writes eight words at once from a place on, and the last ones of a head behind them.
+fn put_head<S: Segment>(seg: &mut S, at: u32, first: &[u64; 8], last: &[u64; 3])
+    requires { MayWrite (S.words seg.old) (S.aside seg.old).windows at 11 }
+    ensures words { S.words seg.new ≡ written (S.words seg.old) at (first.now ++ last.now) }
+    ensures beside { KeptBeside S.WordsIn seg.old seg.new }
+{
+    lower_laws();
+    seg.store_eight(at, first);
+    put_words(seg, at + 8, last);
 }
 
 // Writes words from a place on.

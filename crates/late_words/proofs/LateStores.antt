@@ -1,6 +1,6 @@
 -- The words after one was stored.
-use Rattle.std.proofs.Common.{◌≡◌, ◌∙◌, ℕ, suc, ◌+◌, ◌-◌, ◌<◌, ◌≤◌, List, [], ◌∷◌, ◌++◌, length, replicate, take, slice_set, sym, ap, arith}
-use Rattle.std.proofs.lemmas.List.{append_assoc, length-append, length-replicate, set-append_right, take_all, replicate-append-replicate}
+use Rattle.std.proofs.Common.{◌≡◌, ◌∙◌, ℕ, suc, ◌+◌, ◌-◌, ◌<◌, ◌≤◌, List, [], ◌∷◌, ◌++◌, length, replicate, slice_set, sym, ap, arith}
+use Rattle.std.proofs.lemmas.List.{append_assoc, length-append, length-replicate, set-append_right, replicate-append-replicate}
 use Rattle.std.proofs.Math.Seq.{set-append_seam}
 use Rattle.late_words.specs.Zeros.{with_zeros}
 
@@ -20,15 +20,14 @@ zero_set n k w low =
 
 -- behind them
 pub stored_behind : (xs : List ℕ) (n len at w : ℕ) → length xs ≡ n → n ≤ at → at < len
-    → with_zeros ((take at xs ++ replicate (at - n) 0) ++ w ∷ []) len ≡ slice_set (with_zeros xs len) at w
+    → with_zeros ((xs ++ replicate (at - n) 0) ++ w ∷ []) len ≡ slice_set (with_zeros xs len) at w
 stored_behind xs n len at w is past low =
     let gap = replicate {A = ℕ} (at - n) 0 in
     let count : length ((xs ++ gap) ++ w ∷ []) ≡ at + 1 =
     omega (arith, is, past, length-append (xs ++ gap) (w ∷ []), length-append xs gap, length-replicate {A = ℕ} (at - n) 0) in
     let left : len - length ((xs ++ gap) ++ w ∷ []) ≡ (len - n) - ((at - n) + 1) = omega (arith, count, past, low) in
     let back = replicate {A = ℕ} ((len - n) - ((at - n) + 1)) 0 in
-    ap (λ l. with_zeros ((l ++ gap) ++ w ∷ []) len) (take_all at xs (omega (arith, is, past)))
-    ∙ ap (λ k. ((xs ++ gap) ++ w ∷ []) ++ replicate k 0) left
+    ap (λ k. ((xs ++ gap) ++ w ∷ []) ++ replicate k 0) left
     ∙ append_assoc (xs ++ gap) (w ∷ []) back
     ∙ append_assoc xs gap (w ∷ back)
     ∙ ap (λ l. xs ++ l) (sym (zero_set (len - n) (at - n) w (omega (arith, past, low))))

@@ -1,7 +1,8 @@
 //! Words in memory of which those behind the last stored one are 0.
 
-ghost use Rattle.std.specs.Prelude.{◌≡◌, ℕ, ◌<◌, ◌≤◌, ◌^◌, length, replicate, IfOk};
-ghost use Rattle.std.specs.Prelude.{vec_capacity};
+ghost use Rattle.std.specs.Prelude.{◌≡◌, ℕ, ◌-◌, ◌<◌, ◌≤◌, ◌^◌, ◌++◌, length, replicate, IfOk};
+ghost use Rattle.std.specs.Prelude.{vec_capacity, vec_len, []};
+ghost use Rattle.std.specs.Vec.{vec_ptr};
 ghost use Rattle.seg_words.specs.Windows.{nothing_aside};
 ghost use Rattle.late_words.specs.Zeros.{with_zeros, short_with};
 
@@ -10,8 +11,8 @@ use std::alloc::{AllocError, Global};
 
 /// Words in memory, which nobody else copies: no window is ever open.
 ///
-/// Memory for all of them is taken at once. Those behind the last one that was stored are 0, and
-/// their memory is neither read nor written.
+/// Memory for all of them is taken at once, and no call moves the words to other memory. Those
+/// behind the last one that was stored are 0, and their memory is neither read nor written.
 #[derive(Drop)]
 pub struct LateWords {
     // The words up to the last one that was stored.
@@ -24,23 +25,42 @@ pub struct LateWords {
 }
 
 impl LateWords {
-    /// So many words, each 0. None of them is written.
+    /// `len` words, each 0. None of them is written.
     pub fn new(alloc: Global, len: u32) -> Result<LateWords, AllocError>
-        ensures { IfOk result (λ v. ⟦<LateWords as WordsIn>⟧.words v ≡ replicate len 0) }
+        ensures words { IfOk result (λ v. ⟦<LateWords as WordsIn>⟧.words v ≡ replicate len 0) }
+        ensures unwritten { IfOk result (λ v. v.written.items ≡ []) }
     {
         let written = Vec::with_capacity(alloc, len as usize)?;
         Ok(LateWords { written, len })
     }
+
+    // Writes zeros up to the word at `at`. There is memory for them, so none is taken. It is apart
+    // so that a store among words that are written is inlined.
+    #[cold]
+    #[inline(never)]
+    fn pad(&mut self, at: usize)
+        requires order { vec_len self.old.written ≤ at }
+        requires inside { at ≤ self.old.len }
+        ensures items { self.new.written.items ≡ self.old.written.items ++ replicate
+            (at - vec_len self.old.written) 0 }
+        ensures place { vec_ptr self.new.written ≡ vec_ptr self.old.written }
+        ensures len { self.new.len ≡ self.old.len }
+    {
+        'words: while self.written.len() < at {
+            self.written.push_reserved(0);
+        }
+    }
 }
 
 impl WordsIn for LateWords {
-    type Rest = ();
+    // The address of the first word.
+    type Rest = *const u64;
 
     ghost words = { λ s. with_zeros s.written.items s.len };
 
     ghost aside = { λ _. nothing_aside };
 
-    ghost rest = { λ _. tt };
+    ghost rest = { λ s. vec_ptr s.written };
 
     ghost short = { λ s. short_with s.written.items s.len s.within s.short };
 
@@ -91,9 +111,7 @@ impl Segment for LateWords {
             self.written[at] = w;
             return;
         }
-        let Ok(()) = self.written.resize(at, 0) else {
-            unreachable!();
-        };
+        self.pad(at);
         self.written.push_reserved(w);
     }
 
@@ -157,25 +175,26 @@ impl WordsIn for LentWords<'_> {
 
     fn load(&mut self, i: u32) -> u64 {
         let at = i as usize;
-        if at < self.written.len() {
-            return self.written[at];
+        let written = self.written;
+        if at < written.len() {
+            return written[at];
         }
         0
     }
 
     fn load_eight(&mut self, i: u32) -> [u64; 8] {
         let at = i as usize;
-        let words = self.written;
-        if at + 8 <= words.len() {
+        let written = self.written;
+        if at + 8 <= written.len() {
             return [
-                words[at],
-                words[at + 1],
-                words[at + 2],
-                words[at + 3],
-                words[at + 4],
-                words[at + 5],
-                words[at + 6],
-                words[at + 7],
+                written[at],
+                written[at + 1],
+                written[at + 2],
+                written[at + 3],
+                written[at + 4],
+                written[at + 5],
+                written[at + 6],
+                written[at + 7],
             ];
         }
         [

@@ -1,4 +1,4 @@
-use Rattle.std.proofs.Common.{◌≡◌, true, arith}
+use Rattle.std.proofs.Common.{◌≡◌, true, arith, refl}
 use Rattle.std.proofs.lemmas.Bool.Decides.{nat_tests}
 use Rattle.cache_c.specs.Asked.{is_short}
 use Rattle.cache_c.specs.Standing.{cache_words}
@@ -21,3 +21,6 @@ pub answer-requires-clause-slot : goal.answer-requires-clause-slot
 answer-requires-clause-slot c =
     let short : is_short c.args.key.now ≡ true = grind (arith, nat_tests, c.if-key-ge4294967296.false) in
     c.slot_of_hash-slot.ensures.slot c.args.key.now (c.requires.may.hash short)
+
+pub returns-then-ask-eq-HOLD-clause-seats : goal.returns-then-ask-eq-HOLD-clause-seats
+returns-then-ask-eq-HOLD-clause-seats c = c.hold.ensures.seats c.args.ask.now c.if-ask-eq-HOLD.true refl refl

@@ -19,4 +19,4 @@ pub returns-clause-seats : goal.returns-clause-seats
 returns-clause-seats c = λ ask kind number set.
     let yes = c.is_long.ensures.yes c.if-not-is_long.false in
     let all : length c.look-at.new.self.words.seats ≡ 64 = search rules in
-    seats_kept ask c.args.seat c.args.least c.look-at.result.1 c.look-at.result.0 kind number set yes.0 yes.1 yes.2 all (c.look-at.ensures.text yes.1) c.look-at.ensures.left (c.look-at.ensures.block (c.look-at.ensures.text yes.1)) c.sit.ensures.words (c.sit.ensures.seats)
+    seats_kept ask c.args.seat c.args.least c.look-at.result.1 c.look-at.result.0 kind number set yes.0 yes.1 yes.2 all (c.look-at.ensures.text yes.1) c.look-at.ensures.left (c.look-at.ensures.block (c.look-at.ensures.text yes.1)) c.sit.ensures.memory c.sit.ensures.words (c.sit.ensures.seats)

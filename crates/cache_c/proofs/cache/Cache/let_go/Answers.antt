@@ -13,4 +13,4 @@ returns-clause-stand c = stands_seated c.requires.stand refl c.hold.ensures.late
 pub returns-clause-free : goal.returns-clause-free
 returns-clause-free c =
     let all : length c.args.self.now.words.seats ≡ 64 = search rules in
-    let_go c.args.seat (omega (arith, c.if-seat-ge-SEATS.false)) all refl (ap (λ w. late.ghosts.words w) c.hold.ensures.late) c.hold.ensures.seats
+    let_go c.args.seat (omega (arith, c.if-seat-ge-SEATS.false)) all refl (ap (λ w. late.ghosts.rest w) c.hold.ensures.late) (ap (λ w. late.ghosts.words w) c.hold.ensures.late) c.hold.ensures.seats

@@ -16,7 +16,7 @@ use Rattle.cache_c.proofs.ToldGaps.{prefix_told, prefix_length, gap_more}
 use Rattle.cache_c.proofs.cache.Cache.list_gaps.Goals as goal
 
 pub loop-i-init : goal.loop-i-init
-loop-i-init c = record { gaps = refl; others = refl; len = refl; low = omega arith; same = record { core = refl; words = refl; aside = refl } }
+loop-i-init c = record { gaps = refl; others = refl; len = refl; low = omega arith; same = record { core = refl; memory = refl; words = refl; aside = refl } }
 
 pub gap-requires : goal.gap-requires
 gap-requires c = record { stand = stands_kept c.loop-i.invariant.same c.requires.stand }
@@ -24,7 +24,7 @@ gap-requires c = record { stand = stands_kept c.loop-i.invariant.same c.requires
 pub returns-in_default-clause-same : goal.returns-in_default-clause-same
 returns-in_default-clause-same c =
     let inv = c.loop-i.invariant in
-    record { core = c.gap.ensures.same.core ∙ inv.same.core; words = c.gap.ensures.same.words ∙ inv.same.words; aside = c.gap.ensures.same.aside ∙ inv.same.aside }
+    record { core = c.gap.ensures.same.core ∙ inv.same.core; memory = c.gap.ensures.same.memory ∙ inv.same.memory; words = c.gap.ensures.same.words ∙ inv.same.words; aside = c.gap.ensures.same.aside ∙ inv.same.aside }
 
 pub returns-in_default-clause-gaps : goal.returns-in_default-clause-gaps
 returns-in_default-clause-gaps c =
@@ -75,7 +75,7 @@ loop-i-preserved c =
       others = drop-set-lt (i + 1) out i (gap_told gap) (omega arith) ∙ sym (drop_more 1 i out) ∙ ap (drop 1) inv.others ∙ drop_more 1 i c.args.out.now;
       len = length-set out i (gap_told gap) ∙ inv.len;
       low = omega (arith, low, length-set out i (gap_told gap));
-      same = record { core = c.gap.ensures.same.core ∙ inv.same.core; words = c.gap.ensures.same.words ∙ inv.same.words; aside = c.gap.ensures.same.aside ∙ inv.same.aside };
+      same = record { core = c.gap.ensures.same.core ∙ inv.same.core; memory = c.gap.ensures.same.memory ∙ inv.same.memory; words = c.gap.ensures.same.words ∙ inv.same.words; aside = c.gap.ensures.same.aside ∙ inv.same.aside };
     }
 
 pub returns-clause-same : goal.returns-clause-same

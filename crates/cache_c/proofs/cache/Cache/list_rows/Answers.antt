@@ -99,7 +99,7 @@ loop-i-preserved c =
       others = drop-set-lt (i + 1) out i t (omega arith) ∙ sym (drop_more 1 i out) ∙ ap (drop 1) inv.others ∙ drop_more 1 i c.args.out.now;
       low = left_low rows i row rest left;
       len = length-set out i t ∙ inv.len;
-      same = record { core = c.after-at.ensures.same.core ∙ core; words = c.after-at.ensures.same.words ∙ c.row.ensures.same.words ∙ inv.same.words; aside = c.after-at.ensures.same.aside ∙ c.row.ensures.same.aside ∙ inv.same.aside };
+      same = record { core = c.after-at.ensures.same.core ∙ core; memory = c.after-at.ensures.same.memory ∙ c.row.ensures.same.memory ∙ inv.same.memory; words = c.after-at.ensures.same.words ∙ c.row.ensures.same.words ∙ inv.same.words; aside = c.after-at.ensures.same.aside ∙ c.row.ensures.same.aside ∙ inv.same.aside };
     }
 
 pub returns-clause-same : goal.returns-clause-same

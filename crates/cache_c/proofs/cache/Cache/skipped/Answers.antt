@@ -57,7 +57,7 @@ loop-passed-preserved c =
     record {
       at = row_next laws.walked laws.sound old.core.slots (cache_words old) nothing_aside s c.requires.stand.alone.stand c.args.slot c.loop-passed._passed at rows are next chain removed here;
       low = omega (arith, c.loop-passed-test.true);
-      same = record { core = n.same.core ∙ i.same.core; words = n.same.words ∙ i.same.words; aside = n.same.aside ∙ i.same.aside };
+      same = record { core = n.same.core ∙ i.same.core; memory = n.same.memory ∙ i.same.memory; words = n.same.words ∙ i.same.words; aside = n.same.aside ∙ i.same.aside };
     }
 
 pub returns-clause-same : goal.returns-clause-same
