@@ -8,6 +8,8 @@ use Rattle.cache_c.specs.declared.counts.ToldCounts.{ToldCounts}
 use Rattle.cache_c.specs.declared.counts.Gap.{Gap}
 use Rattle.cache_c.specs.declared.making.Shape.{Shape}
 use Rattle.cache_c.specs.declared.rows.ToldRow.{ToldRow}
+use Rattle.cache_c.specs.declared.shared.Found.{Found}
+use Rattle.cache_c.specs.declared.shared.View.{View}
 use Rattle.cache_c.specs.declared.asking.TheConstants as asking
 use Rattle.cache_c.specs.declared.making.TheConstants as making
 use Rattle.cache_c.specs.declared.seat_words.TheConstants as seat_words
@@ -18,6 +20,8 @@ use Rattle.cache_c.specs.contracts.counts.ToldCounts as counts_laid
 use Rattle.cache_c.specs.contracts.counts.Gap as gap_laid
 use Rattle.cache_c.specs.contracts.making.Shape as shape_laid
 use Rattle.cache_c.specs.contracts.rows.ToldRow as row_laid
+use Rattle.cache_c.specs.contracts.shared.Found as found_laid
+use Rattle.cache_c.specs.contracts.shared.View as view_laid
 
 -- the number of each request
 pub record RequestNumbers : Type 0 where
@@ -55,18 +59,20 @@ pub record OtherNumbers : Type 0 where
 -- the bytes of each struct
 pub record StructSizes : Type 0 where
   pub shape : size (layout shape_laid.the_row) ≡ 16
-  pub ask : size (layout ask_laid.the_row) ≡ 40
+  pub ask : size (layout ask_laid.the_row) ≡ 48
   pub answer : size (layout answer_laid.the_row) ≡ 24
   pub counts : size (layout counts_laid.the_row) ≡ 56
   pub row : size (layout row_laid.the_row) ≡ 88
   pub gap : size (layout gap_laid.the_row) ≡ 8
+  pub view : size (layout view_laid.the_row) ≡ 12
+  pub found : size (layout found_laid.the_row) ≡ 32
 
 -- the fields of each struct, in the order in which they lie in memory
 pub record FieldOrders : Type 0 where
   pub shape : (s : Shape) → shape_laid.the_type.as_values s
       ≡ (s.words, (s.slots, (s.ttl, (s.segments, tt))))
   pub ask : (a : Ask) → ask_laid.the_type.as_values a
-      ≡ (a.kind, (a.value, (a.ttl, (a.t, (a.number, (a.set, tt))))))
+      ≡ (a.kind, (a.value, (a.ttl, (a.t, (a.number, (a.set, (a.hash, tt)))))))
   pub answer : (a : Answer) → answer_laid.the_type.as_values a
       ≡ (a.kind, (a.place, (a.number, (a.len, tt))))
   pub counts : (c : ToldCounts) → counts_laid.the_type.as_values c
@@ -101,3 +107,6 @@ pub record FieldOrders : Type 0 where
         ),
       )
   pub gap : (g : Gap) → gap_laid.the_type.as_values g ≡ (g.place, (g.size, tt))
+  pub view : (v : View) → view_laid.the_type.as_values v ≡ (v.slots, (v.rows, (v.len, tt)))
+  pub found : (f : Found) → found_laid.the_type.as_values f
+      ≡ (f.kind, (f.place, (f.number, (f.len, (f.row, tt)))))
