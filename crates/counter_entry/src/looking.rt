@@ -22,13 +22,7 @@ pub(crate) enum Found {
 }
 
 // Looks a key up at the moment t, without a use; `slot` is the key's.
-pub(crate) fn look_for<S: WordsIn>(
-    core: &Core,
-    seg: &mut S,
-    key: &[u8],
-    slot: u32,
-    t: u64,
-) -> Found
+pub(crate) fn look_for<S: WordsIn>(core: &Core, seg: &mut S, key: &[u8], slot: u32, t: u64) -> Found
     requires short { length key.now < 2 ^ 32 }
     requires slot { slot ≡ slot_of core.now.conf key.now }
     requires stand { CacheStands S.WordsIn core.now seg.old }

@@ -12,5 +12,5 @@ returns-in-Some-clause-told g c = λ graph told. scalar_told _ graph c.in-Some.v
 pub returns-in-None-clause-told : goal.returns-in-None-clause-told
 returns-in-None-clause-told g c = λ graph told.
     let kept = c.in-None.ensures.kept in
-    let there = subst (λ (a : Aside). IsToldImage (g.W.WordsIn.words c.in-None.new.from) a.windows c.args.image graph) (sym kept.aside) (subst (λ (ws : List ℕ). IsToldImage ws (g.W.WordsIn.aside c.args.from.now).windows c.args.image graph) (sym kept.words) told) in
+    let there = subst (λ (a : Aside). IsToldImage (g.W.WordsIn.words c.read_scalar.new.from) a.windows c.args.image graph) (sym kept.aside) (subst (λ (ws : List ℕ). IsToldImage ws (g.W.WordsIn.aside c.args.from.now).windows c.args.image graph) (sym kept.words) told) in
     subst (λ (ws : List ℕ). IsValueBy ws graph c.text_at.result) kept.words (c.text_at.ensures.told graph there (sym (c.in-None.ensures.scalar graph (image_length graph) told.image)))

@@ -29,11 +29,14 @@ hard_expired_at-requires g c =
     let s = entries core.slots in
     let sound = c.standing_laws.ensures.sound core.slots (g.S.WordsIn.words c.args.seg.now) (g.S.WordsIn.aside c.args.seg.now) s f.stand.stand in
     record {
-      there = (core.slots, record {
-        stand = stand_kept core.slots c.find.ensures.kept f.stand.stand;
-        there = list_any-append (is_at c.in-Some.at) s.rows s.removed
-            ∙ or_left (has_place c.in-Some.at s.rows) (has_place c.in-Some.at s.removed) (old_is c.args.key.now c.in-Some.at sound (sym c.in-Some.is ∙ c.find.ensures.row core.slots (finds_of f) (slot_is f))).listed;
-      });
+      there = (
+        core.slots,
+        record {
+          stand = stand_kept core.slots c.find.ensures.kept f.stand.stand;
+          there = list_any-append (is_at c.in-Some.at) s.rows s.removed
+              ∙ or_left (has_place c.in-Some.at s.rows) (has_place c.in-Some.at s.removed) (old_is c.args.key.now c.in-Some.at sound (sym c.in-Some.is ∙ c.find.ensures.row core.slots (finds_of f) (slot_is f))).listed;
+        },
+      );
     }
 
 pub returns-then-hard_expired_at-clause-none : goal.returns-then-hard_expired_at-clause-none
@@ -42,11 +45,11 @@ returns-then-hard_expired_at-clause-none g c = λ core f.
     let sound = c.standing_laws.ensures.sound core.slots (g.S.WordsIn.words c.args.seg.now) (g.S.WordsIn.aside c.args.seg.now) s f.stand.stand in
     let o = old_is c.args.key.now c.in-Some.at sound (sym c.in-Some.is ∙ c.find.ensures.row core.slots (finds_of f) (slot_is f)) in
     let over : is_hard_expired c.args.t o.row ≡ true = sym (c.hard_expired_at.ensures.over core.slots o.row
-        (record {
-          stand = stand_kept core.slots c.find.ensures.kept f.stand.stand;
-          there = list_any-append (is_at c.in-Some.at) s.rows s.removed ∙ or_left (has_place c.in-Some.at s.rows) (has_place c.in-Some.at s.removed) o.listed;
-        })
-        (record { there = Contains-append_left s.rows s.removed o.row o.there; place = o.place })) ∙ c.if-hard_expired_at.true in
+    (record {
+      stand = stand_kept core.slots c.find.ensures.kept f.stand.stand;
+      there = list_any-append (is_at c.in-Some.at) s.rows s.removed ∙ or_left (has_place c.in-Some.at s.rows) (has_place c.in-Some.at s.removed) o.listed;
+    })
+    (record { there = Contains-append_left s.rows s.removed o.row o.there; place = o.place })) ∙ c.if-hard_expired_at.true in
     over_old c.args.t o sound over
 
 pub returns-clause-found : goal.returns-clause-found
@@ -55,9 +58,9 @@ returns-clause-found g c = λ core f.
     let sound = c.standing_laws.ensures.sound core.slots (g.S.WordsIn.words c.args.seg.now) (g.S.WordsIn.aside c.args.seg.now) s f.stand.stand in
     let o = old_is c.args.key.now c.in-Some.at sound (sym c.in-Some.is ∙ c.find.ensures.row core.slots (finds_of f) (slot_is f)) in
     let over : is_hard_expired c.args.t o.row ≡ false = sym (c.hard_expired_at.ensures.over core.slots o.row
-        (record {
-          stand = stand_kept core.slots c.find.ensures.kept f.stand.stand;
-          there = list_any-append (is_at c.in-Some.at) s.rows s.removed ∙ or_left (has_place c.in-Some.at s.rows) (has_place c.in-Some.at s.removed) o.listed;
-        })
-        (record { there = Contains-append_left s.rows s.removed o.row o.there; place = o.place })) ∙ c.if-hard_expired_at.false in
+    (record {
+      stand = stand_kept core.slots c.find.ensures.kept f.stand.stand;
+      there = list_any-append (is_at c.in-Some.at) s.rows s.removed ∙ or_left (has_place c.in-Some.at s.rows) (has_place c.in-Some.at s.removed) o.listed;
+    })
+    (record { there = Contains-append_left s.rows s.removed o.row o.there; place = o.place })) ∙ c.if-hard_expired_at.false in
     found_old o refl sound over

@@ -64,4 +64,4 @@ returns-clause-step g c =
     let there : Stands new.slots words aside (entries new.slots) = subst (λ (s : EntrySlots). Stands s words aside (entries s)) (sym slots) inv.stand.stand in
     let opened : KeepsOpen aside.windows (entries mid.slots) (entries new.slots) = subst (λ (s : EntrySlots). KeepsOpen aside.windows (entries mid.slots) (entries s)) (sym slots) (same_open aside.windows (entries mid.slots)) in
     steps inv.step (quiet (record { aside = refl; rest = refl }) opened (ap (λ (s : EntrySlots). (entries s).removed) slots)
-        (record { stand = there; whole = ap (λ (s : EntrySlots). entries s) slots ∙ (inv.stand.whole ∙ sym (ap entries_of c.count_misses.ensures.cache)) }))
+    (record { stand = there; whole = ap (λ (s : EntrySlots). entries s) slots ∙ (inv.stand.whole ∙ sym (ap entries_of c.count_misses.ensures.cache)) }))
