@@ -2,9 +2,15 @@
 # Plays each case of docs/differences/ on PHP's APCu and on the program, and tells each that prints something else than
 # its folder says. Where several workers meet, what stands there is judged as an output of the case's script, and so is
 # what the program prints of it. With the extension, SO, it plays the PHP of each case there too: it prints what APCu
-# prints in just the cases that say so. The page and the tests that are made of the cases have to be up to date.
-# Usage: checks/differences.sh [PROGRAM [SO]]; it needs php with apcu and pcntl, and with SO php-dev.
+# prints in just the cases that say so. The page that is made of the cases has to be up to date. With --program the
+# program's side alone is played, which needs no PHP.
+# Usage: checks/differences.sh [--program] [PROGRAM [SO]]; else it needs php with apcu and pcntl, and with SO php-dev.
 set -eu
+of_program=''
+if [ "${1:-}" = --program ]; then
+    of_program=yes
+    shift
+fi
 here=$(cd "$(dirname "${BASH_SOURCE[0]}")" && pwd)
 program=$(realpath "${1:-$here/../crates/apcu_run/out/apcu_run}")
 so=${2:+$(realpath "$2")}
@@ -105,6 +111,17 @@ try_program() {
 
 "$here/../docs/differences.sh" --check || others=1
 ln -s "$program" "$scratch/apcu_run"
+if [ -n "$of_program" ]; then
+    count=0
+    for folder in "$cases"/[0-9]*; do
+        [ -e "$folder/prints" ] || continue
+        count=$((count + 1))
+        try_program "$folder"
+    done
+    [ "$others" = 0 ] || exit 1
+    echo "the program prints what $count cases of docs/differences say"
+    exit
+fi
 # Most of PHP's time is waiting.
 for folder in "$cases"/[0-9]*; do ask_php "$folder" >"$scratch/${folder##*/}.php" & done
 if [ -n "$so" ]; then

@@ -1,11 +1,16 @@
 #!/usr/bin/env bash
 # That the pages are right: links, and paths of this repository in backquotes, lead to files; CLAIMS, READING, the
-# tables of ARCHITECTURE, and DIFFERENCES with the tests of its cases are what their scripts write; the clause that
-# README shows is in the sources; no file has more words of checks/words.py's list than it may keep; the commands of the
-# pages of examples/, which show the programs in Rust, print what they say; and each case of DIFFERENCES prints on both
-# sides what its folder says.
-# Usage: checks/pages.sh [PROGRAM]; it needs php with apcu and pcntl.
+# tables of ARCHITECTURE, and DIFFERENCES are what their scripts write; the clause that README shows is in the sources; no
+# file has more words of checks/words.py's list than it may keep; the commands of the pages of examples/, which show the
+# programs in Rust, print what they say; and each case of DIFFERENCES prints on both sides what its folder says. With
+# --written only what needs neither a program nor PHP is checked.
+# Usage: checks/pages.sh [--written | PROGRAM]; without --written it needs php with apcu and pcntl.
 set -u
+is_written=''
+if [ "${1:-}" = --written ]; then
+    is_written=yes
+    shift
+fi
 program=${1:+$(realpath "$1")}
 cd "$(dirname "${BASH_SOURCE[0]}")/.."
 others=0
@@ -53,6 +58,7 @@ for page in claims reading crates differences; do
     bash "docs/$page.sh" --check || others=1
 done
 shown 'ensures replayed' 'K.held out.new)) }$' crates/apcu_play/src/running.rt
+[ -z "$is_written" ] || exit "$others"
 bash checks/examples.sh ${program:+"$program"} || others=1
 bash checks/differences.sh ${program:+"$program"} || others=1
 exit $others

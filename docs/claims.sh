@@ -1,14 +1,17 @@
 #!/usr/bin/env bash
-# Writes the coverage and the lists of CLAIMS.md, between its two marks, from the rows of claims.txt, the lines 'clause:'
-# of the edits and the repository's history. It writes nothing and ends with status 1 where a row names a clause or a test
-# that is not there, where an edit names no clause, or one that is in no row. With --check it writes nothing in any case,
-# and ends with status 1 where CLAIMS.md is not what it would write; without the history it takes over what the page says
-# of edits that were tried.
+# Writes the coverage and the lists of CLAIMS.md, between its two marks, from the rows of claims.txt and the lines
+# 'clause:' of the edits. It writes nothing and ends with status 1 if a row names a clause or a test that is not there, or
+# if an edit names no clause, or one that is in no row. With --check it writes nothing in any case, and ends with status 1
+# if CLAIMS.md is not what it would write.
 # Usage: docs/claims.sh [--check]
 set -eu
 cd "$(dirname "$0")/.."
 exec python3 - "$@" <<'PYTHON'
-import glob, os, re, subprocess, sys
+import glob, os, re, sys
+
+sys.dont_write_bytecode = True
+sys.path.insert(0, "checks")
+import edits as trials
 
 BEGIN, END = "<!-- what stands from here on is written by claims.sh -->", "<!-- up to here -->"
 PAGE = "docs/CLAIMS.md"
@@ -17,6 +20,8 @@ FUNCTION = re.compile(r'^( *)(?:pub(?:\([a-z ]+\))? )?(?:const )?(?:unsafe )?(?:
 CLAUSE = re.compile(r"^ *(?:ensures|requires)\*? (?:(\w+) )?\{")
 DEFINED = re.compile(r"^(?=(?:\w+ )*(?:abbrev|record|data) )", re.M)
 faults = []
+# How many edits of a row are named.
+NAMED = 2
 
 
 # ---- the source
@@ -107,9 +112,11 @@ class Source:
         return first in clauses and set(rest) <= self.fields(clauses[first]) | {""}
 
     def has_test(self, name):
-        """A test; a file, which means its tests; or a crate: all its tests, or the stored run of a program."""
+        """A test; a file, which means its tests; a crate: all its tests, or the stored run of a program; stored runs; or a program in C."""
         if name.endswith(".c"):
             return os.path.isfile(name)
+        if name.startswith(("tests/", "docs/")):
+            return os.path.isfile(f"{name}.t") or os.path.isdir(name)
         return name in self.tests or name in self.files or "::" not in name \
             and (any(test.startswith(f"{name}::") for test in self.tests) or os.path.isfile(f"crates/{name}/stdin"))
 
@@ -136,14 +143,12 @@ class Clauses:
 
 
 def rows_of(source):
-    """The lists by their names, each with what is said of it and its rows (a promise, its clauses, those that are alike,
-    and its tests); and by their folders where edits were last tried."""
-    tables, tried = {}, {}
+    """The lists by their names, each with what is said of it and its rows: a promise, its clauses, those that are alike,
+    and its tests."""
+    tables = {}
     for part in re.split(r"\n\s*\n", open("docs/claims.txt", encoding="utf-8").read()):
         lines = [line.split(": ", 1) for line in part.split("\n") if line and not line.startswith("#")]
-        if lines and lines[0][0] == "tried":
-            tried.update((text.split()[0], text.split()[1:]) for _, text in lines)
-        elif lines and lines[0][0] == "table":
+        if lines and lines[0][0] == "table":
             about, rows = "".join(text + "\n\n" for word, text in lines if word == "about"), []
             tables[lines[0][1]] = (about, rows)
         elif lines:
@@ -156,20 +161,20 @@ def rows_of(source):
                 else:
                     row["alike" if word == "alike" else "clause"].append(Clauses(text, source, row["promise"]))
             rows.append(row)
-    return tables, tried
+    return tables
 
 
 def edits_of(source):
-    """By their clauses: the tier, crate and name of each edit."""
+    """By their clauses: the crate and the name of each edit."""
     found = {}
-    for path in sorted(glob.glob("crates/*/must-fail/*.edit") + glob.glob("crates/*/more-edits/*.edit")):
-        _, crate, tier, name = path.split("/")
+    for path in sorted(glob.glob("crates/*/more-edits/*.edit")):
+        _, crate, _, name = path.split("/")
         head = open(path, encoding="utf-8").read().split("file: ")[0]
         keys = re.findall(r"^clause: (.*)$", head, re.M)
         if not keys:
             faults.append(f"{path}: no line 'clause:' before its line 'file:'")
         for key in keys:
-            found.setdefault(key, []).append((tier, crate, name[:-len(".edit")], path))
+            found.setdefault(key, []).append((crate, name[:-len(".edit")], path))
     return found
 
 
@@ -178,7 +183,7 @@ def check(tables, edits, source):
     known = {key for row in rows for clauses in row["clause"] for key in clauses.keys}
     for key, named_by in edits.items():
         if key not in known:
-            faults.extend(f"{path}: no row has the clause {key}" for _, _, _, path in named_by)
+            faults.extend(f"{path}: no row has the clause {key}" for _, _, path in named_by)
     for row in rows:
         if not row["clause"]:
             faults.append(f"claims.txt: no clause: {row['promise']}")
@@ -189,17 +194,17 @@ def check(tables, edits, source):
 
 # ---- the lists of rows
 
-def names(clauses, tier, edits, home):
-    """The edits of one tier that name one of these clauses, each once, without the crate where it is the row's."""
-    found = [(crate, name) for each in clauses for key in each.keys for at, crate, name, _ in edits.get(key, []) if at == tier]
+def names(clauses, edits, home):
+    """The edits that name one of these clauses, each once, without the crate if it is the row's."""
+    found = [(crate, name) for each in clauses for key in each.keys for crate, name, _ in edits.get(key, [])]
     return [f"`{name}`" if crate == home else f"`{crate}::{name}`" for crate, name in dict.fromkeys(found)]
 
 
 def edits_for(row, edits):
-    """The row's own edits in the gate, those that are alike, and its further ones."""
+    """The row's own edits, and those that are alike."""
     home = row["clause"][0].path.split("::")[0]
-    gate, further = (names(row["clause"], tier, edits, home) for tier in ("must-fail", "more-edits"))
-    return gate, [name for name in names(row["alike"], "must-fail", edits, home) if name not in gate], further
+    own = names(row["clause"], edits, home)
+    return own, [name for name in names(row["alike"], edits, home) if name not in own]
 
 
 def in_files(tests, source):
@@ -210,9 +215,9 @@ def in_files(tests, source):
 
 
 def line_of(row, edits, source):
-    gate, others, further = edits_for(row, edits)
-    tried = [", ".join(gate)] * bool(gate) + [f"{len(others)} alike"] * bool(others) + \
-        [f"+{len(further)}"] * bool(further)
+    own, others = edits_for(row, edits)
+    named = own[:NAMED] + [f"+{len(own) - NAMED}"] * (len(own) > NAMED)
+    tried = [", ".join(named)] * bool(own) + [f"{len(others)} alike"] * bool(others)
     tests = ", ".join(f"`{test}`" for test in in_files(row["test"], source))
     return (f"- {row['promise']}\n  {'; '.join(str(each) for each in row['clause'])}. "
             f"Edits: {'; '.join(tried) or 'none'}. Tests: {tests or 'none'}.\n")
@@ -220,75 +225,46 @@ def line_of(row, edits, source):
 
 # ---- coverage
 
-def change_of(path, text):
-    """What an edit changes: its crate, and its lines that name a file and what is changed there."""
-    return path.split("/")[1], tuple(re.findall(r"^(?:file|old|new): .*$", text, re.M))
-
-
-def changes_at(commit, folder):
-    """The edits of a folder as they were at a commit, or nothing where the history is not here."""
-    def git(words, given=None):
-        return subprocess.run(["git", *words], input=given, capture_output=True)
-
-    listed = git(["ls-tree", "-r", commit, "crates"])
-    if listed.returncode:
-        return None
-    entries = [line.split(None, 3)[2:] for line in listed.stdout.decode().splitlines()]
-    entries = [(blob, path) for blob, path in entries if f"/{folder}/" in path and path.endswith(".edit")]
-    texts = git(["cat-file", "--batch"], "".join(f"{blob}\n" for blob, _ in entries).encode()).stdout
-    found = set()
-    for _, path in entries:
-        head, _, texts = texts.partition(b"\n")
-        size = int(head.split()[2])
-        found.add(change_of(path, texts[:size].decode()))
-        texts = texts[size + 1:]
+def of_statements():
+    """The edits that change a statement, as a clause or a definition, and no body of a function."""
+    found = []
+    for path in sorted(glob.glob("crates/*/more-edits/*.edit")):
+        crate = path.split("/")[1]
+        lines, _ = trials.applied(path, crate)
+        if lines and not any(trials.body_at(crate, file, at) for file, at in lines):
+            found.append(path)
     return found
 
 
-def trial(folder, about, tried):
-    """How many edits a folder has, where they were last tried, and how many of them were not there then."""
-    paths = glob.glob(f"crates/*/{folder}/*.edit")
-    commit, date = tried[folder]
-    then = changes_at(commit, folder)
-    if then is None:
-        return None
-    new = sum(change_of(path, open(path, encoding="utf-8").read()) not in then for path in paths)
-    return (f"- {about}: {len(paths)}. The last recorded run of all, at commit `{commit}` ({date}), had {len(then)}, "
-            f"each refused. New or changed since: {new or 'none'}.\n")
-
-
-def coverage(tables, edits, tried, old):
+def coverage(tables, edits):
     rows = [row for name, (_, table) in tables.items() if name != "-" for row in table]
     kinds = [edits_for(row, edits) for row in rows]
-    own = sum(bool(gate) for gate, _, _ in kinds)
-    alike = sum(not gate and bool(others) for gate, others, _ in kinds)
-    further = sum(not gate and not others and bool(more) for gate, others, more in kinds)
+    own = sum(bool(own) for own, _ in kinds)
+    alike = sum(not own and bool(others) for own, others in kinds)
     none = [row for row, kind in zip(rows, kinds) if not any(kind)]
     untested = [row for row in rows if not row["test"]]
     bare = sum(not row["test"] for row in none)
     waits = [(line.split(":")[0].split()[0], int(count)) for line in open("crates.txt", encoding="utf-8")
              for count in re.findall(r"\bmay_wait=(\d+)", line)]
-    trials = [trial("must-fail", "Edits in the gate", tried), trial("more-edits", "Further edits", tried)]
-    if None in trials:
-        trials = re.findall(r"^- (?:Edits in the gate|Further edits): .*\n", old, re.M)
+    many = len(glob.glob("crates/*/more-edits/*.edit"))
     return f"""## Coverage
 
-- Rows: {len(rows)}. With an edit of their own in the gate {own}, with one that is alike alone {alike}, with further \
-edits alone {further}, with none {len(none)}.
+- Rows: {len(rows)}. With an edit of their own {own}, with one that is alike alone {alike}, with none {len(none)}.
 - Rows without a test: {len(untested)}, of which {bare} have no edit either.
-{"".join(trials)}- Functions that may wait: {sum(count for _, count in waits)}, in \
+- Edits: {many}. Of these {len(of_statements())} change a clause of a law, a definition or a constant, and no body.
+- Functions that may wait: {sum(count for _, count in waits)}, in \
 {", ".join(f"`{name}` ({count})" for name, count in waits)}. All others return.
 """
 
 
 def main(words):
     source = Source()
-    (tables, tried), edits = rows_of(source), edits_of(source)
+    tables, edits = rows_of(source), edits_of(source)
     check(tables, edits, source)
     if faults:
         sys.exit("\n".join(dict.fromkeys(faults)))
     page = open(PAGE, encoding="utf-8").read()
-    text = "\n\n".join([coverage(tables, edits, tried, page).rstrip()] + [
+    text = "\n\n".join([coverage(tables, edits).rstrip()] + [
         f"## {name}\n\n{about}{''.join(line_of(row, edits, source) for row in rows)}".rstrip()
         for name, (about, rows) in tables.items() if name != "-"])
     before, begin, rest = page.partition(BEGIN)

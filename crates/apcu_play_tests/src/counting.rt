@@ -1,11 +1,11 @@
 //! Many workers on one counter.
 
 use crate::gates::{Hold, Holding};
-use crate::runs::{Ended, Streams, played, smooth};
-use row_search::RegexMaker;
+use crate::runs::{Ended, Streams, played, smooth, words_of};
 use apcu_play::Status;
 use io_edges::Point;
 use notation::ByteOut;
+use row_search::RegexMaker;
 use std::alloc::Global;
 use std::process::Abort;
 use std::sync::Wait;
@@ -87,8 +87,7 @@ fn expect_counted<R: Threads + Wait + Sync + Abort>(
     calls: u32,
     meet: u32,
 ) -> Result<(), Fail> {
-    let mut words = Vec::new(alloc);
-    words.push(String::from_str(alloc, "apcu_run")?)?;
+    let words = words_of(alloc, &[])?;
     let scripts = counting(alloc, workers, calls)?;
     let meeting = [Hold::Meet(workers, Point::Before(meet))];
     let gate = Holding::new(rt, alloc, &meeting)?;

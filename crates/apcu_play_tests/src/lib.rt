@@ -1,35 +1,26 @@
-//! Tests of `apcu_play`: scripts and what they print, and each way in which a run can end.
+//! Tests of `apcu_play`: worked runs, each way in which a run can fail, and workers that are held at
+//! points of their scripts.
 #![tactic(auto)]
 
 #[cfg(test)]
-mod calls;
-#[cfg(test)]
 mod counting;
 #[cfg(test)]
-mod differences;
+mod cuts;
 #[cfg(test)]
 mod faults;
 #[cfg(test)]
 mod gates;
 #[cfg(test)]
-mod iterators;
+mod generated;
 #[cfg(test)]
 mod laws;
 #[cfg(test)]
-mod moments;
-#[cfg(test)]
-mod options;
+mod makers;
 #[cfg(test)]
 mod pieces;
 #[cfg(test)]
-mod room;
+mod rows;
 #[cfg(test)]
 mod runs;
 #[cfg(test)]
-mod segments;
-#[cfg(test)]
-mod shown;
-#[cfg(test)]
 mod threads;
-#[cfg(test)]
-mod values;

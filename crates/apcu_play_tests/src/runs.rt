@@ -1,9 +1,8 @@
 //! A run of the program, and what comes of it.
 
-use row_search::{Maker, RegexMaker};
 use apcu_play::{Status, run};
 use io_edges::{Gate, MemSink, MemSource, NoGate};
-use notation::ByteOut;
+use row_search::{Maker, RegexMaker};
 use std::alloc::Global;
 use std::process::Abort;
 use std::sync::Wait;
@@ -15,50 +14,21 @@ pub(crate) const STORE_AND_FETCH: &[u8] =
 
 pub(crate) const PRINTED: &[u8] = b"worker 0\nb:1;\ni:5;b:1;\njournal\n0\n0\n0\n";
 
-// A run: the values of the three options, the input, the most bytes of a read and of a write, the
-// numbers from 0 of the reads and writes that fail; how it ends, what it prints and what it tells.
-#[derive(Clone, Copy)]
-pub(crate) struct Run<'a> {
-    pub(crate) values: [&'static str; 3],
-    pub(crate) input: &'a [u8],
-    pub(crate) piece: usize,
-    pub(crate) fails: [&'a [u64]; 2],
-    pub(crate) status: Status,
-    pub(crate) printed: &'a [u8],
-    pub(crate) told: &'a [u8],
-}
-
 // 512 words, of which 480 are for blocks.
-pub(crate) const SMALL: [&str; 3] = ["4096", "32", "0"];
+pub(crate) const SMALL: &[&str] = &["--shm-size", "4096", "--slots", "32"];
 
 // A megabyte.
-pub(crate) const LARGER: [&str; 3] = ["1M", "32", "0"];
+pub(crate) const LARGER: &[&str] = &["--shm-size", "1M", "--slots", "32"];
 
-// A run without faults, read seven bytes at a time.
-pub(crate) fn whole<'a>(
-    input: &'a [u8],
-    status: Status,
-    printed: &'a [u8],
-    told: &'a [u8],
-) -> Run<'a> {
-    Run {
-        values: SMALL,
-        input,
-        piece: 7,
-        fails: [[].as_slice(), [].as_slice()],
-        status,
-        printed,
-        told,
-    }
-}
+// How a run ends, what it prints and its message.
+pub(crate) type Wanted<'a> = (Status, &'a [u8], &'a [u8]);
 
-// The program's name, and the options with these values.
-pub(crate) fn words_of(alloc: Global, values: [&'static str; 3]) -> Result<Vec<String>, Fail> {
+// The program's name, and these options.
+pub(crate) fn words_of(alloc: Global, options: &[&str]) -> Result<Vec<String>, Fail> {
     let mut words = Vec::new(alloc);
     words.push(String::from_str(alloc, "apcu_run")?)?;
-    for (i, name) in ["--shm-size", "--slots", "--ttl"].iter().enumerate() {
-        words.push(String::from_str(alloc, name)?)?;
-        words.push(String::from_str(alloc, values[i])?)?;
+    for option in options {
+        words.push(String::from_str(alloc, option)?)?;
     }
     Ok(words)
 }
@@ -83,7 +53,7 @@ pub(crate) fn smooth(input: &[u8]) -> Streams<'_> {
     }
 }
 
-// How a run ended, what it printed and what it told.
+// How a run ended, what it printed and its message.
 pub(crate) struct Ended<'a> {
     pub(crate) status: Status,
     out: MemSink<'a>,
@@ -103,10 +73,6 @@ impl Drop for Ended<'_> {
 impl Ended<'_> {
     pub(crate) fn printed(&self) -> &[u8] {
         self.out.as_slice()
-    }
-
-    pub(crate) fn told(&self) -> &[u8] {
-        self.err.as_slice()
     }
 
     // The line feeds among what was printed.
@@ -141,65 +107,31 @@ pub(crate) fn played<'a, R: Threads + Wait + Sync + Abort, M: Maker + Sync, G: G
     Ok(Ended { status, out, err })
 }
 
-pub(crate) fn expect<R: Threads + Wait + Sync + Abort>(
-    rt: &R,
-    alloc: Global,
-    case: Run<'_>,
-) -> Result<(), Fail> {
-    let words = words_of(alloc, case.values)?;
-    expect_of(rt, alloc, &words, case)
-}
-
-// The same of a program that is called with these words.
-pub(crate) fn expect_of<R: Threads + Wait + Sync + Abort>(
+// The run of the program with these words ends so.
+pub(crate) fn expect_of<R: Threads + Wait + Sync + Abort, M: Maker + Sync>(
     rt: &R,
     alloc: Global,
     words: &[String],
-    case: Run<'_>,
-) -> Result<(), Fail> {
-    expect_by(rt, alloc, words, &RegexMaker, case)
-}
-
-// The same where the regexes of patterns come from this maker.
-pub(crate) fn expect_by<R: Threads + Wait + Sync + Abort, M: Maker + Sync>(
-    rt: &R,
-    alloc: Global,
-    words: &[String],
+    streams: Streams<'_>,
     maker: &M,
-    case: Run<'_>,
+    wanted: Wanted<'_>,
 ) -> Result<(), Fail> {
-    let streams = Streams {
-        input: case.input,
-        piece: case.piece,
-        fails: case.fails,
-        room: 16_384,
-    };
     let ended = played(rt, alloc, words, streams, maker, &NoGate)?;
-    assert_eq!(rt; ended.status, case.status);
-    assert_eq!(rt; ended.printed(), case.printed);
-    assert_eq!(rt; ended.told(), case.told);
+    let (status, printed, message) = wanted;
+    assert_eq!(rt; ended.status, status);
+    assert_eq!(rt; ended.out.as_slice(), printed);
+    assert_eq!(rt; ended.err.as_slice(), message);
     Ok(())
 }
 
-// What a script in a small segment prints in front of its journal.
-pub(crate) fn expect_lines<R: Threads + Wait + Sync + Abort>(
+// The run with these options ends so.
+pub(crate) fn expect_on<R: Threads + Wait + Sync + Abort>(
     rt: &R,
     alloc: Global,
-    ttl: &'static str,
-    script: &[u8],
-    printed: &[u8],
-    events: usize,
+    options: &[&str],
+    streams: Streams<'_>,
+    wanted: Wanted<'_>,
 ) -> Result<(), Fail> {
-    let mut wanted = ByteOut::new(alloc);
-    wanted.push(b"worker 0\n")?;
-    wanted.push(printed)?;
-    wanted.push(b"journal\n")?;
-    for _event in 0..events {
-        wanted.push(b"0\n")?;
-    }
-    let case = Run {
-        values: ["4096", "32", ttl],
-        ..whole(script, Status::Done, wanted.as_slice(), b"")
-    };
-    expect(rt, alloc, case)
+    let words = words_of(alloc, options)?;
+    expect_of(rt, alloc, &words, streams, &RegexMaker, wanted)
 }

@@ -5,11 +5,11 @@ use crate::gates::Holding;
 use crate::pieces::Piece::{self, Text, Zs};
 use crate::pieces::spelled;
 use crate::runs::{LARGER, SMALL, played, smooth, words_of};
-use row_search::RegexMaker;
 use apcu_play::Status;
 use io_edges::NoGate;
 use io_edges::Point::{After, Before, Chunk, Pinned};
 use notation::ByteOut;
+use row_search::RegexMaker;
 use std::alloc::Global;
 use std::process::Abort;
 use std::sync::Wait;
@@ -295,10 +295,14 @@ fn workers_meet(rt: HostRuntime) -> Result<(), Fail> {
 #[test]
 fn generated_workers_meet(rt: HostRuntime) -> Result<(), Fail> {
     let alloc = rt.alloc();
-    let mut words = words_of(alloc, ["8M", "32", "0"])?;
-    for word in ["--generate", "7", "--workers", "8", "--calls", "200"] {
-        words.push(String::from_str(alloc, word)?)?;
-    }
+    let options = [
+        "--shm-size=8M",
+        "--slots=32",
+        "--generate=7",
+        "--workers=8",
+        "--calls=200",
+    ];
+    let words = words_of(alloc, &options)?;
     let gate = Holding::new(&rt, alloc, &[Meet(8, Before(100))])?;
     let ended = played(&rt, alloc, &words, smooth(b""), &RegexMaker, &gate)?;
     assert_eq!(rt; ended.status, Status::Done);

@@ -1,11 +1,18 @@
-//! Tests of words: rows of numbers, the blocks that the allocator gives, the table that keeps
-//! pinned blocks, and entries with their chains; all over public calls.
+//! Tests of values and of the words that hold them: byte strings and value graphs, their texts and
+//! their words, the edges where bytes come in and go out; rows of numbers, the blocks that the
+//! allocator gives, the table of pinned blocks, and entries with their chains.
 #![tactic(auto)]
 
 #[cfg(test)]
 mod blocks;
 #[cfg(test)]
 mod chains;
+#[cfg(test)]
+mod edges;
+#[cfg(test)]
+mod graphs;
+#[cfg(test)]
+mod images;
 #[cfg(test)]
 mod listed;
 #[cfg(test)]
@@ -18,5 +25,9 @@ mod slot_calls;
 mod slots;
 #[cfg(test)]
 mod steps;
+#[cfg(test)]
+mod strings;
+#[cfg(test)]
+mod texts;
 #[cfg(test)]
 mod words;

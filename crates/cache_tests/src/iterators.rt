@@ -2,9 +2,9 @@
 
 use crate::pair::shape;
 use crate::small::Small;
-use row_search::{RefuseAll, RegexMaker, Search, SearchFault};
 use apcu_model::{Chunk, Fields, List, Pattern};
 use php_graph::Bytes;
+use row_search::{RefuseAll, RegexMaker, Search, SearchFault};
 use std::alloc::{AllocError, Global};
 use std::test::Fail;
 

@@ -4,9 +4,9 @@ ghost use Rattle.std.specs.Prelude.{◌≡◌, None, Some};
 ghost use Rattle.apcu_model.specs.Asking.{asked};
 ghost use Rattle.mark_play.specs.Asks.{MayBeAsked};
 
-use row_search::{RegexMaker, Search};
 use apcu_model::{Ask, Conf, Fields, List, Reply, Request};
 use mark_play::Replay;
+use row_search::{RegexMaker, Search};
 use std::alloc::Global;
 use std::process::Abort;
 use std::test::Fail;

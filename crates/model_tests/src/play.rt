@@ -6,6 +6,7 @@ ghost use Rattle.apcu_model.specs.Sequential.{is_iteration};
 
 use apcu_model::*;
 use php_graph::{Builder, Bytes, Graph, Item, Kind, Wants};
+use plain_cache::Plain;
 use std::alloc::Global;
 use std::process::Abort;
 use std::test::Fail;

@@ -1,0 +1,109 @@
+//! Caches after a few stores and deletions, with the map of each.
+
+use crate::asking::string;
+use crate::info_small::Small;
+use apcu_model::{Conf, StoreAnswer};
+use notation::ByteOut;
+use std::alloc::Global;
+use std::process::Abort;
+use std::test::Fail;
+
+// What is done under a key of one letter.
+#[derive(Clone, Copy)]
+enum Act {
+    // stores a string of so many bytes
+    Put(u8, usize),
+    Delete(u8),
+}
+
+fn play(rt: &impl Abort, alloc: Global, small: &mut Small, acts: &[Act]) -> Result<(), Fail> {
+    for act in acts {
+        match *act {
+            Act::Put(key, len) => {
+                let value = string(rt, alloc, len)?;
+                assert!(rt; small.store(key, &value) == StoreAnswer::Stored);
+            }
+            Act::Delete(key) => assert!(rt; small.delete(key)),
+        }
+    }
+    Ok(())
+}
+
+// The map after what was done, and how many blocks of 16 words fit.
+fn tells(
+    rt: &impl Abort,
+    alloc: Global,
+    conf: &Conf,
+    acts: &[Act],
+    map: &str,
+    fits: u32,
+) -> Result<(), Fail> {
+    assert!(rt; conf.usable());
+    let mut small = Small::new(alloc, conf)?;
+    play(rt, alloc, &mut small, acts)?;
+    let mut out = ByteOut::new(alloc);
+    small.map(&mut out)?;
+    assert!(rt; out.as_slice() == map.as_bytes());
+    assert_eq!(rt; small.fits_of_16(), fits);
+    Ok(())
+}
+
+pub(crate) const ONE: Conf = Conf {
+    words: 512,
+    slots: 32,
+    ttl: 0,
+    segments: 1,
+};
+
+#[test]
+fn an_empty_cache_is_one_gap(rt: HostRuntime) -> Result<(), Fail> {
+    let map = "map\nfree 32 480\nfree words 480\nlargest 480\nruns 1\nfits 16 30\nfits 32 15\n\
+        fits 64 7\nfits 128 3\nfits 256 1\n";
+    tells(&rt, rt.alloc(), &ONE, &[], map, 30)
+}
+
+#[test]
+fn a_row_and_a_gap(rt: HostRuntime) -> Result<(), Fail> {
+    let map = "map\nrow 32 16 1 s:1:\"a\";\nfree 48 464\nfree words 464\nlargest 464\nruns 1\n\
+        fits 16 29\nfits 32 14\nfits 64 7\nfits 128 3\nfits 256 1\n";
+    tells(&rt, rt.alloc(), &ONE, &[Act::Put(b'a', 1)], map, 29)
+}
+
+#[test]
+fn rows_behind_a_gap(rt: HostRuntime) -> Result<(), Fail> {
+    const ACTS: &[Act] = &[
+        Act::Put(b'a', 1168),
+        Act::Put(b'b', 1168),
+        Act::Put(b'c', 1168),
+        Act::Delete(b'a'),
+    ];
+    let map = "map\nfree 32 160\nrow 192 160 2 s:1:\"b\";\nrow 352 160 3 s:1:\"c\";\n\
+        free words 160\nlargest 160\nruns 1\nfits 16 10\nfits 32 5\nfits 64 2\nfits 128 1\n";
+    tells(&rt, rt.alloc(), &ONE, ACTS, map, 10)
+}
+
+#[test]
+fn a_full_cache_has_no_line_of_fits(rt: HostRuntime) -> Result<(), Fail> {
+    const ACTS: &[Act] = &[
+        Act::Put(b'a', 1168),
+        Act::Put(b'7', 1168),
+        Act::Put(b'c', 1168),
+    ];
+    let map = "map\nrow 32 160 1 s:1:\"a\";\nrow 192 160 2 i:7;\nrow 352 160 3 s:1:\"c\";\n\
+        free words 0\nlargest 0\nruns 0\n";
+    tells(&rt, rt.alloc(), &ONE, ACTS, map, 0)
+}
+
+// A run ends at a border of segments, and what is left of each is counted by itself.
+#[test]
+fn two_segments_have_two_runs(rt: HostRuntime) -> Result<(), Fail> {
+    const TWO: Conf = Conf {
+        words: 112,
+        slots: 32,
+        ttl: 0,
+        segments: 2,
+    };
+    let map = "map\nfree 32 24\nfree 56 56\nfree words 80\nlargest 56\nruns 2\nfits 16 4\n\
+        fits 32 1\n";
+    tells(&rt, rt.alloc(), &TWO, &[], map, 4)
+}
