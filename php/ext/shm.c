@@ -260,7 +260,8 @@ static bool may_drop_rows(uint32_t kind)
 
 cache_answer apcu_ask(const cache_request *request, const zend_string *key, const char *bytes, size_t len)
 {
-	set_busy(true);
+	/* A process that is killed in a call that changes nothing leaves the cache whole. */
+	set_busy(request->kind != CACHE_EXISTS);
 	if (UNEXPECTED(apcu_shm->seats.taken != 0) && may_drop_rows(request->kind)) {
 		seats_sweep(&apcu_shm->seats, apcu_shm->cache);
 	}
