@@ -148,7 +148,8 @@ bool apcu_shm_start(const cache_shape *shape, bool is_dumped, size_t *bytes)
 	apcu_shm = at;
 	apcu_shm->size = size;
 	apcu_shm->shape = *shape;
-	if (robust_lock_make(&apcu_shm->lock, true) && robust_lock_make(&apcu_shm->entry_lock, false)) {
+	if (robust_lock_make(&apcu_shm->lock, true) && robust_lock_make(&apcu_shm->entry_lock, false)
+			&& seats_make(&apcu_shm->seats, &apcu_shm->lock)) {
 		make();
 	}
 	if (!apcu_shm->is_made) {
@@ -288,8 +289,11 @@ cache_answer apcu_look(const zend_string *key, time_t t, apcu_held *held)
 	cache_answer answer = apcu_ask(&request, key, "", 0);
 
 	held->bytes = NULL;
-	if (request.kind == CACHE_HOLD && answer.kind == CACHE_STR && answer.len >= APCU_HELD_FROM
-			&& seats_may_read(apcu_shm->cache, apcu_shm->words, answer.place)) {
+	if (request.kind != CACHE_HOLD || answer.kind != CACHE_STR || answer.len < APCU_HELD_FROM) {
+		return answer;
+	}
+	seats_note(all, seat);
+	if (seats_may_read(apcu_shm->cache, apcu_shm->words, answer.place)) {
 		held->bytes = (const char *) (apcu_shm->words + answer.place);
 		held->len = (size_t) answer.len;
 		held->seat = seat;

@@ -29,7 +29,7 @@ typedef struct {
 	size_t size, used;          /* bytes of the mapping, and of those that were given out */
 	uint8_t *cache;             /* the handle */
 	uint64_t *words;            /* what the places of the cache's strings are in */
-	seats seats;                /* who copies from them outside of the lock */
+	seats seats;                /* the processes that copy from them outside of the lock */
 } apcu_shared;
 
 /* Null where there is no cache in this process. */
