@@ -26,7 +26,7 @@ static void start_cache(void)
 	size_t bytes = 0;
 
 	if (apcu_shm_is_good(&shape)) {
-		if (!apcu_shm_start(&shape, !APCU_G(coredump_unmap), &bytes)) {
+		if (!apcu_shm_start(&shape, apcu_settings_is_dumped(), &bytes)) {
 			zend_error(E_CORE_WARNING, "apc_mmap: Failed to mmap %zu bytes. Is your apc.shm_size too large?", bytes);
 		}
 		return;

@@ -57,6 +57,10 @@ void apcu_settings_stop(int type, int module_number);
 /* The shape of a cache that the settings ask for. */
 cache_shape apcu_settings_shape(void);
 
+/* Whether core dumps contain the cache: if apc.coredump_unmap=0 is set, and not by default. A process
+ * that dumps core keeps the lock until its dump is written. */
+bool apcu_settings_is_dumped(void);
+
 /* preload.c */
 
 /* Stores each file NAME.data of the folder under its name, unless there is a row. */
