@@ -121,6 +121,16 @@ bool apcu_shm_is_good(const cache_shape *shape)
 	return is_good;
 }
 
+static bool make_locks(void)
+{
+	for (size_t i = 0; i < APCU_ENTRY_GROUPS; i++) {
+		if (!robust_lock_make(&apcu_shm->entry[i].lock, false)) {
+			return false;
+		}
+	}
+	return robust_lock_make(&apcu_shm->lock, true) && seats_make(&apcu_shm->seats, &apcu_shm->lock);
+}
+
 bool apcu_shm_start(const cache_shape *shape, bool is_dumped, size_t *bytes)
 {
 	size_t page = (size_t) sysconf(_SC_PAGESIZE);
@@ -148,8 +158,7 @@ bool apcu_shm_start(const cache_shape *shape, bool is_dumped, size_t *bytes)
 	apcu_shm = at;
 	apcu_shm->size = size;
 	apcu_shm->shape = *shape;
-	if (robust_lock_make(&apcu_shm->lock, true) && robust_lock_make(&apcu_shm->entry_lock, false)
-			&& seats_make(&apcu_shm->seats, &apcu_shm->lock)) {
+	if (make_locks()) {
 		make();
 	}
 	if (!apcu_shm->is_made) {
@@ -305,29 +314,4 @@ cache_answer apcu_look(const zend_string *key, time_t t, apcu_held *held)
 bool apcu_let_go(const apcu_held *held)
 {
 	return seats_leave(&apcu_shm->seats, held->seat, held->ticket);
-}
-
-void apcu_entry_begin(void)
-{
-	if (APCU_G(entry_level)++ > 0) {
-		return;
-	}
-	/* It guards no memory, so where its owner died there is nothing to mend. */
-	robust_lock_take(&apcu_shm->entry_lock);
-	APCU_G(entry_owner) = getpid();
-}
-
-void apcu_entry_end(void)
-{
-	if (APCU_G(entry_level) > 0 && --APCU_G(entry_level) == 0 && APCU_G(entry_owner) == getpid()) {
-		robust_lock_give(&apcu_shm->entry_lock);
-	}
-}
-
-void apcu_entry_leave(void)
-{
-	if (APCU_G(entry_level) > 0) {
-		APCU_G(entry_level) = 1;
-		apcu_entry_end();
-	}
 }

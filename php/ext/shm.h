@@ -1,4 +1,4 @@
-/* The memory that all processes of one fork share: a cache, the lock round its calls, and the lock
+/* The memory that all processes of one fork share: a cache, the lock round its calls, and the locks
  * round callbacks of apcu_entry. */
 #ifndef APCU_SHM_H
 #define APCU_SHM_H
@@ -10,9 +10,15 @@
 #include "robust_lock.h"
 #include "seats.h"
 
+/* Keys are spread over as many groups for apcu_entry. */
+#define APCU_ENTRY_GROUPS 64
+
 typedef struct {
 	robust_lock lock;           /* one call of the cache at a time */
-	robust_lock entry_lock;     /* one callback of apcu_entry at a time */
+	struct {
+		robust_lock lock;           /* one callback of apcu_entry for keys of this group at a time */
+		_Atomic uint32_t waits_for; /* 1 + the group whose lock its owner waits for; 0: none */
+	} entry[APCU_ENTRY_GROUPS];
 	volatile bool is_made;      /* there is a cache */
 	volatile bool is_busy;      /* a call that may change it is under way */
 	uint64_t remade;            /* how often a process died in such a call, and the cache was made anew */
@@ -73,13 +79,5 @@ cache_answer apcu_look(const zend_string *key, time_t t, apcu_held *held);
 /* Lets a string go, outside of the lock. False where it was not held any more: what was read of it may be
  * of other rows. So it is where the cache was made anew. */
 bool apcu_let_go(const apcu_held *held);
-
-/* The lock round callbacks of apcu_entry. It is taken once a process, however deep the callbacks lie
- * in one another, and a forked child does not give back what its parent took. */
-void apcu_entry_begin(void);
-void apcu_entry_end(void);
-
-/* At the end of a request: gives back what a callback that never returned left taken. */
-void apcu_entry_leave(void);
 
 #endif
