@@ -23,7 +23,7 @@ typedef struct {
 	volatile bool is_busy;      /* a call that may change it is under way */
 	uint64_t remade;            /* how often a process died in such a call, and the cache was made anew */
 	uint64_t events;            /* how many events this cache had, while they are recorded */
-	bool is_record_over;        /* a process could not record its events */
+	bool is_preload_recorded;   /* a process has the events of the server's start in its file */
 	time_t start_time;          /* when the cache was made or cleared */
 	struct {
 		zend_ulong hash;
