@@ -1,8 +1,8 @@
 /* Copies outside of the lock. A process holds a large text and reads it without the lock, while
  * others delete it, store over it, clear the cache and fill it: each byte is the old one. Then a
- * process is killed while it copies, and so are as many as there are seats, for which nobody waits: the
- * next call that wants room gets that of their rows. And one copies while another process dies inside a call, so that the cache is made anew: then the copy
- * doesn't count. At last processes store, fetch and are killed at random moments.
+ * process is killed while it copies, and so are as many as there are seats, with no process waiting
+ * for them: the next call that wants room gets that of their rows. And one copies while another
+ * process dies inside a call, so that the cache is emptied: then the copy doesn't count. At last processes store, fetch and are killed at random moments.
  * Usage: copies [KILLS] */
 #define _GNU_SOURCE
 #include "shared_cache.h"
@@ -161,7 +161,7 @@ static void hold_one_and_wait(void) {
         pause();
 }
 
-/* As many as there are seats are killed, and nobody waits for them: they have their numbers still. */
+/* As many as there are seats are killed and remain zombies: they still have their numbers. */
 static void of_zombies(void) {
     pid_t child[CACHE_SEATS];
     holders = mmap(NULL, sizeof *holders, PROT_READ | PROT_WRITE, MAP_SHARED | MAP_ANONYMOUS, -1, 0);

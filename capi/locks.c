@@ -57,7 +57,7 @@ static void mark_only(void) {
     robust_mark_release(mark, lock);
 }
 
-/* It ends with what it was told, or otherwise if the mark has an owner. */
+/* Its status is the result of taking the lock, or 1 if the mark has an owner. */
 static void take_and_look(void) {
     int taken = robust_lock_take(lock);
     if (taken == EOWNERDEAD && *is_taking)

@@ -100,6 +100,10 @@ uint32_t shared_start(const cache_shape *wanted) {
     void *map = mmap(NULL, size, PROT_READ | PROT_WRITE, MAP_SHARED | MAP_ANONYMOUS, -1, 0);
     if (map == MAP_FAILED)
         return CACHE_NO_ROOM;
+#ifdef MADV_DONTDUMP
+    /* A process that dumps core owns its lock until the dump is written. */
+    madvise(map, size, MADV_DONTDUMP);
+#endif
     head = map;
     handle = (uint8_t *)map + whole_lines(sizeof *head);
     room = (unsigned char *)map + before;

@@ -15,9 +15,11 @@ apcu_shared *apcu_shm;
  * judged, there is none; else it is malloc's. Written under the lock alone, or before there is a
  * second process. */
 static enum { FROM_MALLOC, FROM_MAPPING, FROM_NOWHERE } source;
-static bool was_remade;
 
-/* Something waits until the lock is given back: events to be recorded, or that the cache was made anew. */
+/* A message for the log about the cache that took the place of another one, or null. */
+static const char *remade_message;
+
+/* Something waits until the lock is released: events to be recorded, or that message. */
 static bool has_news;
 
 /* What the library gets when it asks for memory. */
@@ -215,7 +217,10 @@ static void recover(void)
 	if (apcu_shm->is_busy) {
 		make();
 		apcu_shm->remade++;
-		was_remade = has_news = true;
+		remade_message = apcu_shm->is_made
+			? "apcu: a process died while it changed the cache; an empty one has taken its place"
+			: "apcu: a process died while it changed the cache, and no empty one could be made: there is none until PHP restarts";
+		has_news = true;
 		set_busy(false);
 	} else {
 		seats_settle(&apcu_shm->seats);
@@ -246,21 +251,42 @@ bool apcu_lock(void)
 
 void apcu_unlock(void)
 {
-	bool is_news = has_news, is_told = was_remade;
-	const char *fault = NULL;
+	const char *message = remade_message, *fault = NULL;
+	bool is_news = has_news;
 
-	has_news = was_remade = false;
+	has_news = false;
+	remade_message = NULL;
 	robust_lock_give(&apcu_shm->lock);
 	if (UNEXPECTED(is_news)) {
 		fault = apcu_record_write();
 	}
 	let_signals();
-	if (UNEXPECTED(is_told)) {
-		php_log_err("apcu: a process died while it changed the cache; an empty one has taken its place");
+	if (UNEXPECTED(message)) {
+		php_log_err(message);
 	}
 	if (UNEXPECTED(fault)) {
 		php_log_err(fault);
 	}
+}
+
+apcu_state apcu_shm_state(void)
+{
+	apcu_state state = {0};
+
+	if (!apcu_lock()) {
+		return state;
+	}
+	state.remakes = apcu_shm->remade;
+	state.seats = seats_count(&apcu_shm->seats);
+	state.longest = apcu_shm->lock.longest;
+	apcu_unlock();
+	/* Each is written by the owner of that lock, and only grows. */
+	for (size_t i = 0; i < APCU_ENTRY_GROUPS; i++) {
+		if (apcu_shm->entry[i].lock.longest > state.longest_entry) {
+			state.longest_entry = apcu_shm->entry[i].lock.longest;
+		}
+	}
+	return state;
 }
 
 static bool may_drop_rows(uint32_t kind)

@@ -57,6 +57,17 @@ void apcu_shm_stop(void);
 bool apcu_lock(void);
 void apcu_unlock(void);
 
+/* What an operator watches besides the cache's own counts, since the server started. */
+typedef struct {
+	uint64_t remakes;       /* how often a process died in a call, and the cache was emptied */
+	unsigned seats;         /* seats that are taken now */
+	uint64_t longest;       /* nanoseconds of the longest wait for the lock, of those that slept */
+	uint64_t longest_entry; /* the same of a lock of apcu_entry */
+} apcu_state;
+
+/* Without the lock; all are 0 if there is no cache. */
+apcu_state apcu_shm_state(void);
+
 /* One event of the cache, under the lock. */
 cache_answer apcu_ask(const cache_request *request, const zend_string *key, const char *bytes, size_t len);
 
