@@ -24,8 +24,8 @@
  *
  * What this rests on, besides the kernel walking the list of a thread that ends:
  * - A thread's number is its own. Processes of different pid namespaces may have equal numbers: if
- *   they share a lock and one of them dies in the instructions round taking or releasing it, a
- *   second one may own the lock at the same time. The C library's mutexes have the same limit.
+ *   they share a lock and one of them dies while it waits for it, takes or releases it, a third one
+ *   may get the lock while the other owns it. The C library's mutexes have the same limit.
  * - A child is made by fork. In a child of _Fork, vfork or clone the number is that of its parent:
  *   it must not use a lock.
  * - No library replaces the thread's list by set_robust_list. A kernel older than 5.18 without the
