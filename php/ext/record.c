@@ -58,7 +58,7 @@ static smart_str preloaded; /* the events of the server's start, for the first f
 static uint64_t part, moment; /* of the last lines of these words in the buffer */
 static char fault[4400];
 
-/* What a parent had not written yet is the parent's, and its faults are. */
+/* In a forked child: what waits is for its parent to write, and it has had no fault itself. */
 static void forget(void)
 {
 	if (file >= 0) {
@@ -72,7 +72,7 @@ static void forget(void)
 	is_over = false;
 }
 
-/* Where PHP runs another program in place of a process, what waits is written first. */
+/* What waits is written before a process runs another program. */
 static zif_handler exec_handler;
 
 static ZEND_FUNCTION(exec_after_write)
@@ -179,7 +179,7 @@ static bool flush(void)
 	return is_written;
 }
 
-/* Bytes of a caller, and the only ones for which the buffer may grow: while the server starts. */
+/* Bytes of a caller. Only while the server starts does the buffer grow. */
 static bool put(const char *bytes, size_t len)
 {
 	if (UNEXPECTED(ZSTR_LEN(buffer.s) + len > BUFFER_BYTES) && !is_starting) {
@@ -336,8 +336,8 @@ static bool put_reply(const event *e)
 	}
 }
 
-/* Null, or why no file is made in the folder: a user other than root and this process's could put
- * another file in the place of one that is written. */
+/* Null, or why no file is made in the folder: a user besides root and this process's own could put another
+ * file in the place of one that is written. */
 static const char *fault_of_folder(void)
 {
 	struct stat is;
