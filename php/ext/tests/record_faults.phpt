@@ -31,7 +31,7 @@ unlink($folder);
 echo taken_record("$folder.old");
 
 // A process that can't make a file ends its own recording: the others go on, and the judge sees what is missing.
-echo run_php("apcu_store('a', 1); chmod('$folder', 0707); if (pcntl_fork() === 0) { apcu_store('a', 2); exit; } pcntl_wait(\$s); chmod('$folder', 0700); apcu_store('a', 3);", "apc.record_dir=$folder", $so);
+echo run_php("apcu_store('a', 1); \$mode = fileperms('$folder') & 07777; chmod('$folder', 0707); if (pcntl_fork() === 0) { apcu_store('a', 2); exit; } pcntl_wait(\$s); chmod('$folder', \$mode); apcu_store('a', 3);", "apc.record_dir=$folder", $so);
 echo taken_record($folder);
 
 // A folder in which others may replace files.
@@ -64,5 +64,31 @@ part 0
 time now
 0 apcu_store s:1:"a"; i:1;
 b:1;
+2 apcu_store s:1:"a"; i:3;
+b:1;
+3 apcu_fetch s:1:"a";
+i:3;b:1;
+shm-size 33554432
+slots 4096
+ttl 0
+values 1
+part 0
+time now
 1 apcu_store s:1:"a"; i:2;
 b:1;
+apcu: process %d records no more calls: %s: others may write in the folder, and it has no sticky bit
+shm-size 33554432
+slots 4096
+ttl 0
+values 1
+part 0
+time now
+0 apcu_store s:1:"a"; i:1;
+b:1;
+2 apcu_store s:1:"a"; i:3;
+b:1;
+apcu: process %d records no more calls: %s: others may write in the folder, and it has no sticky bit
+int(1)
+int(1)
+apcu: no calls are recorded: %s: Not a directory
+bool(true)
