@@ -142,7 +142,7 @@ static void of_the_dead(void) {
     WANT(do_one(CACHE_STORE, "held", 70000) == CACHE_YES);
     do_as_another(hold_and_die);
     delete ();
-    WANT(removed() == 1);
+    WANT(removed() == 0);
     WANT(do_one(CACHE_STORE, "next", 100) == CACHE_YES && removed() == 0);
     clear();
     WANT(free_words() == all);

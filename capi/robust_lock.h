@@ -209,11 +209,11 @@ static inline void robust_set_mark(robust_mark *mark) {
     head->next = entry;
 }
 
-static inline void robust_unset_mark(robust_mark *mark) {
+static inline bool robust_unset_mark(robust_mark *mark) {
     /* In a forked child its parent's mark is in no list. */
     if (robust_self.id == 0 ||
         atomic_load_explicit(&mark->word, memory_order_relaxed) != robust_self.id)
-        return;
+        return false;
     struct robust_list *entry = robust_entry(mark), *head = &robust_self.head->list, *at = head;
     robust_self.head->list_op_pending = entry;
     robust_in_order();
@@ -225,6 +225,7 @@ static inline void robust_unset_mark(robust_mark *mark) {
     atomic_store_explicit(&mark->word, 0, memory_order_release);
     robust_in_order();
     robust_self.head->list_op_pending = NULL;
+    return true;
 }
 #else
 static inline bool robust_has_words(void) { return false; }
@@ -232,7 +233,7 @@ static inline int robust_take_word(robust_lock *lock) { return (void)lock, ENOTS
 static inline void robust_give_word(robust_lock *lock) { (void)lock; }
 static inline bool robust_is_marked(robust_mark *mark) { return (void)mark, true; }
 static inline void robust_set_mark(robust_mark *mark) { (void)mark; }
-static inline void robust_unset_mark(robust_mark *mark) { (void)mark; }
+static inline bool robust_unset_mark(robust_mark *mark) { return (void)mark, false; }
 #endif
 
 ROBUST_SELDOM static bool robust_make_mutex(pthread_mutex_t *mutex) {
@@ -349,12 +350,11 @@ static inline void robust_mark_reset(robust_mark *mark, const robust_lock *by) {
         atomic_store_explicit(&mark->word, 0, memory_order_relaxed);
 }
 
-/* Releases a mark, without the lock; nothing, if this thread does not own it. */
-static inline void robust_mark_release(robust_mark *mark, const robust_lock *by) {
+/* Releases a mark, without the lock; false if this thread does not own it. */
+static inline bool robust_mark_release(robust_mark *mark, const robust_lock *by) {
     if (__builtin_expect(!by->is_mutex, true))
-        robust_unset_mark(mark);
-    else
-        pthread_mutex_unlock(&mark->mutex);
+        return robust_unset_mark(mark);
+    return pthread_mutex_unlock(&mark->mutex) == 0;
 }
 
 #endif

@@ -97,8 +97,7 @@ static inline bool seats_leave(seats *all, unsigned number, uint64_t ticket) {
      * another one. */
     atomic_thread_fence(memory_order_acquire);
     bool counts = atomic_load_explicit(&mine->ticket, memory_order_relaxed) == ticket;
-    robust_mark_release(&mine->owner, all->lock);
-    return counts;
+    return robust_mark_release(&mine->owner, all->lock) && counts;
 }
 
 /* Under the lock: a copy by this seat, if there is one, no longer counts. */
