@@ -1,8 +1,8 @@
 /* Copies outside of the lock. A process holds a large text and reads it without the lock, while
  * others delete it, store over it, clear the cache and fill it: each byte is the old one. Then a
- * process is killed while it copies: its seat is let go, and its row's room is given out again. And
- * one copies while another process dies inside a call, so that the cache is made anew: then the copy
- * doesn't count. At last processes store, fetch and are killed at random moments.
+ * process is killed while it copies, and so are as many as there are seats, with no process waiting
+ * for them: the next call that wants room gets that of their rows. And one copies while another
+ * process dies inside a call, so that the cache is emptied: then the copy doesn't count. At last processes store, fetch and are killed at random moments.
  * Usage: copies [KILLS] */
 #define _GNU_SOURCE
 #include "shared_cache.h"
@@ -142,11 +142,72 @@ static void of_the_dead(void) {
     WANT(do_one(CACHE_STORE, "held", 70000) == CACHE_YES);
     do_as_another(hold_and_die);
     delete ();
-    WANT(removed() == 1);
-    sleep(2);
+    WANT(removed() == 0);
     WANT(do_one(CACHE_STORE, "next", 100) == CACHE_YES && removed() == 0);
     clear();
     WANT(free_words() == all);
+}
+
+/* How many of them hold their text. */
+static _Atomic unsigned *holders;
+
+static void hold_one_and_wait(void) {
+    shared_text held;
+    char key[16];
+    snprintf(key, sizeof key, "z%u", *holders);
+    hold(key, &held);
+    ++*holders;
+    for (;;)
+        pause();
+}
+
+/* As many as there are seats are killed and remain zombies: they still have their numbers. */
+static void of_zombies(void) {
+    pid_t child[CACHE_SEATS];
+    holders = mmap(NULL, sizeof *holders, PROT_READ | PROT_WRITE, MAP_SHARED | MAP_ANONYMOUS, -1, 0);
+    WANT(holders != MAP_FAILED);
+    clear();
+    size_t all = free_words();
+    for (unsigned i = 0; i < CACHE_SEATS; i++) {
+        char key[16];
+        snprintf(key, sizeof key, "z%u", i);
+        WANT(do_one(CACHE_STORE, key, 9000) == CACHE_YES);
+        child[i] = begin(hold_one_and_wait);
+        while (*holders == i)
+            usleep(100);
+    }
+    shared_text none;
+    WANT(hold("z0", &none).len == 9000 && !none.bytes);
+    for (unsigned i = 0; i < CACHE_SEATS; i++) {
+        kill(child[i], SIGKILL);
+        WANT(waitid(P_PID, (id_t)child[i], &(siginfo_t){0}, WEXITED | WNOWAIT) == 0);
+        WANT(kill(child[i], 0) == 0);
+    }
+    clear();
+    WANT(free_words() == all && removed() == 0);
+    for (unsigned i = 0; i < CACHE_SEATS; i++)
+        waitpid(child[i], NULL, 0);
+    munmap(holders, sizeof *holders);
+}
+
+/* A child that is forked during a copy leaves its parent's seat alone. */
+static void of_a_fork(void) {
+    shared_text held;
+    WANT(do_one(CACHE_STORE, "held", 70000) == CACHE_YES);
+    WANT(hold("held", &held).len == 70000 && held.bytes);
+    pid_t child = fork();
+    if (child == 0) {
+        shared_let_go(&held);
+        shared_enter();
+        shared_leave();
+        shared_let_go(&held);
+        _exit(0);
+    }
+    waitpid(child, NULL, 0);
+    delete ();
+    fill();
+    WANT(removed() == 1 && is_whole(held.bytes, held.len) && shared_let_go(&held));
+    WANT(do_one(CACHE_STORE, "next", 100) == CACHE_YES && removed() == 0);
 }
 
 static void of_another_cache(void) {
@@ -256,11 +317,12 @@ int main(int argc, char **argv) {
     stays(store_over);
     stays(clear);
     of_the_dead();
+    of_zombies();
+    of_a_fork();
     of_no_room();
     of_many();
     of_another_cache();
     kill_children(kills);
-    sleep(2);
     clear();
     WANT(do_one(CACHE_STORE, "next", 100) == CACHE_YES && removed() == 0);
     WANT(counts->whole > 0 && counts->torn == 0);

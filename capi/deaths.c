@@ -67,7 +67,6 @@ static void copy_long(void) {
 /* Whether the row is gone once it is deleted, though processes died while they copied from it. */
 static bool is_let_go(void) {
     cache_row row;
-    sleep(2); /* a process is looked for once a second */
     uint8_t *at = shared_enter();
     cache_request delete = {.kind = CACHE_DELETE, .t = now};
     cache_ask(at, &delete, (const uint8_t *)"long", 4, NULL, 0);

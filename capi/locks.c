@@ -1,7 +1,8 @@
-/* Deaths at a lock. A child is stepped, and killed behind its first instruction, its second, and so
+/* Deaths at a lock and at a mark. A child is stepped, and killed behind its first instruction, its second, and so
  * on, while it takes a free lock, while it gives one back for which another one sleeps, and when it
  * was woken: where the lock is free, and where somebody has taken it meanwhile. Each time another
  * one that waits has to get the lock in three seconds. The lock is a short one, and then a long one.
+ * The same while it takes a mark under the lock and releases it later: the next one finds no owner.
  * Usage: locks. Ends with status 77 where processes may not be stepped. */
 #define _GNU_SOURCE
 /* Each look is stepped through. */
@@ -20,6 +21,8 @@
 enum { NO_STEPS = 77 };
 
 static robust_lock *lock;
+static robust_mark *mark;
+static volatile bool *is_taking; /* the mark, by the owner of the lock */
 
 static void stop(const char *why) {
     puts(why);
@@ -36,6 +39,33 @@ static void give_only(void) {
     robust_lock_take(lock);
     raise(SIGSTOP);
     robust_lock_give(lock);
+}
+
+static void set_taking(bool is) {
+    atomic_signal_fence(memory_order_seq_cst);
+    *is_taking = is;
+    atomic_signal_fence(memory_order_seq_cst);
+}
+
+static void mark_only(void) {
+    raise(SIGSTOP);
+    robust_lock_take(lock);
+    set_taking(true);
+    robust_mark_take(mark, lock);
+    set_taking(false);
+    robust_lock_give(lock);
+    robust_mark_release(mark, lock);
+}
+
+/* Its status is the result of taking the lock, or 1 if the mark has an owner. */
+static void take_and_look(void) {
+    int taken = robust_lock_take(lock);
+    if (taken == EOWNERDEAD && *is_taking)
+        robust_mark_reset(mark, lock);
+    *is_taking = false;
+    bool is_owned = robust_mark_is_owned(mark, lock);
+    robust_lock_give(lock);
+    _exit(is_owned ? 1 : taken);
 }
 
 /* It ends with what it was told. */
@@ -148,6 +178,16 @@ static bool die_taking(long steps, struct found *found) {
     return is_death;
 }
 
+/* In taking the lock and a mark, and in releasing both. */
+static bool die_marking(long steps, struct found *found) {
+    pid_t child = begin_stepped(mark_only);
+    bool is_death = step(child, steps, false) == STEPPED;
+    if (is_death)
+        end(child);
+    find(found, begin(take_and_look, false));
+    return is_death;
+}
+
 /* In giving it back, while another one sleeps for it. */
 static bool die_giving(long steps, struct found *found) {
     pid_t child = begin_stepped(give_only), waiter = begin(take_and_give, false);
@@ -201,14 +241,22 @@ static bool find_all(const char *of, bool (*die)(long, struct found *)) {
 }
 
 int main(void) {
-    lock = mmap(NULL, sizeof *lock, PROT_READ | PROT_WRITE, MAP_SHARED | MAP_ANONYMOUS, -1, 0);
-    bool is_good = lock != MAP_FAILED;
+    struct {
+        robust_lock lock;
+        robust_mark mark;
+        volatile bool is_taking;
+    } *shared = mmap(NULL, sizeof *shared, PROT_READ | PROT_WRITE, MAP_SHARED | MAP_ANONYMOUS, -1, 0);
+    bool is_good = shared != MAP_FAILED;
+    lock = &shared->lock;
+    mark = &shared->mark;
+    is_taking = &shared->is_taking;
     for (int is_short = 1; is_good && is_short >= 0; is_short--) {
-        if (!robust_lock_make(lock, is_short))
+        if (!robust_lock_make(lock, is_short) || !robust_mark_make(mark, lock))
             stop("there is no lock");
         puts(is_short ? "a short lock" : "a long lock");
         is_good &= find_all("taking", die_taking);
         is_good &= find_all("giving", die_giving);
+        is_good &= find_all("marking", die_marking);
         is_good &= find_all("woken", die_woken_first);
         is_good &= find_all("woken late", die_woken_late);
     }

@@ -1,108 +1,138 @@
-/* Who copies outside of the lock, and from which row. For the C here and the extension for PHP.
+/* Seats: the processes that copy outside of the lock, and from which rows. For the C here and the
+ * extension for PHP.
  *
- * A process takes a seat of the cache under the lock (CACHE_HOLD), gives the lock back, copies, and
- * leaves the seat by one write, with no lock. The cache holds the row for longer: until the seat is
- * taken again, or another process, under the lock, is about to change rows and lets it go.
+ * A process takes a seat of the cache under the lock (CACHE_HOLD), releases the lock, copies, and
+ * leaves the seat, with no lock. The cache pins the row for longer: until the seat is taken again, or
+ * a process, under the lock, is about to change rows and unpins it.
  *
- * A process may be killed while it copies: its seat is taken away by whoever finds that no process
- * has its number any more. And a cache may be made anew while somebody copies from the old one. So
- * each taking has a ticket, a number that no other one has, and a copy counts only where the ticket
- * still was there when it was done: a seat that was taken away by mistake costs time, and no more. */
+ * A process may be killed while it copies. Each seat has a mark (robust_lock.h): the kernel clears the
+ * owner of a mark when it dies, so from then on the seat counts as left. A cache may also be emptied
+ * while a process copies from it. So each seat has a ticket, which changes when the seat is taken and
+ * when its row is unpinned, and a copy counts only if the ticket is still the same when it is done. */
 #ifndef SEATS_H
 #define SEATS_H
 
 #include "cache_c.h"
 #include "robust_lock.h"
 
-#include <signal.h>
 #include <stdatomic.h>
 #include <string.h>
-#include <time.h>
-#include <unistd.h>
 
 typedef struct {
-    _Atomic uint64_t ticket; /* of who copies; 0: nobody */
-    pid_t id;                /* his thread, or process */
-    uint32_t seen;           /* the second in which he was last known to live */
+    robust_mark owner;       /* the thread that copies */
+    _Atomic uint64_t ticket; /* of the copy; another one after it */
 } seat_of_one;
 
-/* All but the tickets is written under the lock alone. */
+/* Written under the lock, except for the marks. */
 typedef struct {
-    uint64_t taken;   /* by which seats the cache may hold rows, the seat 0 lowest */
-    uint64_t tickets; /* how many were given out */
+    const robust_lock *lock;
+    uint64_t taken;  /* seats by which the cache may pin rows, seat 0 lowest */
+    unsigned taking; /* 1 + the seat whose mark the owner of the lock takes; 0: none */
     seat_of_one seat[CACHE_SEATS];
 } seats;
 
-/* Under the lock: one that nobody copies by; CACHE_SEATS where there is none. */
-static inline unsigned seats_free(const seats *all) {
+/* Makes them, for owners of this lock; false if the system has no mutexes for it. */
+static inline bool seats_make(seats *all, const robust_lock *lock) {
+    all->lock = lock;
+    all->taken = 0;
+    all->taking = 0;
+    for (unsigned number = 0; number < CACHE_SEATS; number++) {
+        atomic_init(&all->seat[number].ticket, 0);
+        if (!robust_mark_make(&all->seat[number].owner, lock))
+            return false;
+    }
+    return true;
+}
+
+/* Under the lock: whether a process that is alive copies by it. */
+static inline bool seats_is_used(seats *all, unsigned number) {
+    return robust_mark_is_owned(&all->seat[number].owner, all->lock);
+}
+
+/* Under the lock: a seat that is not used; CACHE_SEATS if there is none. */
+static inline unsigned seats_free(seats *all) {
     unsigned number = 0;
-    while (number < CACHE_SEATS &&
-           atomic_load_explicit(&all->seat[number].ticket, memory_order_acquire) != 0)
+    while (number < CACHE_SEATS && seats_is_used(all, number))
         number++;
     return number;
 }
 
-/* Under the lock: whether the word of a place stands in this memory as the cache has it, the first
- * byte lowest. */
+/* Under the lock: how many are used. */
+static inline unsigned seats_count(seats *all) {
+    unsigned count = 0;
+    for (unsigned number = 0; number < CACHE_SEATS; number++)
+        count += seats_is_used(all, number);
+    return count;
+}
+
+/* Under the lock: whether this memory has the word of a place as the cache has it, the first byte
+ * lowest. */
 static inline bool seats_may_read(uint8_t *cache, const uint64_t *words, uint32_t place) {
     uint8_t word[8];
     return words && cache_copy(cache, place, word, sizeof word) &&
            memcmp(word, words + place, sizeof word) == 0;
 }
 
-/* Under the lock, after the cache's seat was taken: the ticket of this process. */
+/* Under the lock, after CACHE_HOLD pinned a row by it: the seat is not used, and its row is unpinned
+ * by the next seats_sweep. */
+static inline void seats_note(seats *all, unsigned number) {
+    all->taken |= (uint64_t)1 << number;
+}
+
+/* Under the lock, after seats_note: takes the seat for this thread. The ticket of the copy. */
 static inline uint64_t seats_take(seats *all, unsigned number) {
     seat_of_one *mine = &all->seat[number];
-    uint64_t ticket = ++all->tickets;
-    mine->id = robust_id() != 0 ? (pid_t)robust_id() : getpid();
-    mine->seen = (uint32_t)time(NULL);
-    atomic_store_explicit(&mine->ticket, ticket, memory_order_relaxed);
-    all->taken |= (uint64_t)1 << number;
-    return ticket;
+    all->taking = number + 1;
+    atomic_signal_fence(memory_order_seq_cst);
+    robust_mark_take(&mine->owner, all->lock);
+    atomic_signal_fence(memory_order_seq_cst);
+    all->taking = 0;
+    return atomic_fetch_add_explicit(&mine->ticket, 1, memory_order_relaxed) + 1;
 }
 
 /* Without the lock, when the copy is done: whether it counts. */
 static inline bool seats_leave(seats *all, unsigned number, uint64_t ticket) {
-    /* All was read before the ticket is looked at, and before another one may write there. */
-    atomic_thread_fence(memory_order_acq_rel);
-    return atomic_compare_exchange_strong(&all->seat[number].ticket, &ticket, 0);
+    seat_of_one *mine = &all->seat[number];
+    /* Pairs with the fence of seats_end_copy: of a copy that read a later row's bytes, the ticket is
+     * another one. */
+    atomic_thread_fence(memory_order_acquire);
+    bool counts = atomic_load_explicit(&mine->ticket, memory_order_relaxed) == ticket;
+    return robust_mark_release(&mine->owner, all->lock) && counts;
 }
 
-/* Whether one that copies is gone. He is looked for once a second. */
-static inline bool seats_is_dead(seat_of_one *one) {
-    uint32_t now = (uint32_t)time(NULL);
-    if (one->seen == now)
-        return false;
-    one->seen = now;
-    return kill(one->id, 0) != 0 && errno == ESRCH;
+/* Under the lock: a copy by this seat, if there is one, no longer counts. */
+static inline void seats_end_copy(seats *all, unsigned number) {
+    atomic_fetch_add_explicit(&all->seat[number].ticket, 1, memory_order_relaxed);
+    atomic_thread_fence(memory_order_seq_cst);
 }
 
-/* Under the lock, before rows change, and as a call that changes the cache: the seats that were left
- * are let go, and so are those of processes that died. */
+/* Under the lock, before rows change, and as a call that changes the cache: unpins the rows of seats
+ * that are not used, those of processes that died among them. */
 static __attribute__((noinline, unused)) void seats_sweep(seats *all, uint8_t *cache) {
     for (uint64_t left = all->taken; left != 0; left &= left - 1) {
         unsigned number = (unsigned)__builtin_ctzll(left);
-        seat_of_one *one = &all->seat[number];
-        if (atomic_load_explicit(&one->ticket, memory_order_acquire) != 0) {
-            if (!seats_is_dead(one))
-                continue;
-            atomic_store(&one->ticket, 0);
-        }
+        if (seats_is_used(all, number))
+            continue;
+        seats_end_copy(all, number);
         cache_let_go(cache, number);
         all->taken &= ~((uint64_t)1 << number);
     }
 }
 
-/* Under the lock, where the owner before died with it and outside of a call: he may have taken a seat
- * of the cache and not noted it. */
-static inline void seats_settle(seats *all) { all->taken = UINT64_MAX; }
+/* Under the lock, if its last owner died outside of a call: it may have taken a seat of the cache that
+ * is not noted, or the mark of one that the kernel does not know. */
+static inline void seats_settle(seats *all) {
+    all->taken = UINT64_MAX;
+    if (all->taking != 0)
+        robust_mark_reset(&all->seat[all->taking - 1].owner, all->lock);
+    all->taking = 0;
+}
 
-/* Under the lock, before a cache is made anew: no copy from the old one counts. */
+/* Under the lock, before the cache is emptied: no copy from it counts. */
 static inline void seats_clear(seats *all) {
     for (unsigned number = 0; number < CACHE_SEATS; number++)
-        atomic_store(&all->seat[number].ticket, 0);
+        seats_end_copy(all, number);
     all->taken = 0;
-    atomic_thread_fence(memory_order_seq_cst);
 }
 
 #endif

@@ -100,11 +100,16 @@ uint32_t shared_start(const cache_shape *wanted) {
     void *map = mmap(NULL, size, PROT_READ | PROT_WRITE, MAP_SHARED | MAP_ANONYMOUS, -1, 0);
     if (map == MAP_FAILED)
         return CACHE_NO_ROOM;
+#ifdef MADV_DONTDUMP
+    /* A process that dumps core owns its lock until the dump is written. */
+    madvise(map, size, MADV_DONTDUMP);
+#endif
     head = map;
     handle = (uint8_t *)map + whole_lines(sizeof *head);
     room = (unsigned char *)map + before;
     end = (unsigned char *)map + size;
-    uint32_t made = robust_lock_make(&head->lock, true) ? make() : CACHE_NO_ROOM;
+    bool has_locks = robust_lock_make(&head->lock, true) && seats_make(&head->seats, &head->lock);
+    uint32_t made = has_locks ? make() : CACHE_NO_ROOM;
     if (made != CACHE_MADE)
         shared_end();
     return made;
@@ -161,8 +166,10 @@ cache_answer shared_hold(const uint8_t *key, size_t key_len, uint64_t t, shared_
                          .set = SHARED_HELD};
     cache_answer answer = cache_ask(handle, &ask, key, key_len, NULL, 0);
     *text = (shared_text){.bytes = NULL};
-    if (ask.kind == CACHE_HOLD && answer.kind == CACHE_STR && answer.len >= SHARED_HELD &&
-        seats_may_read(handle, head->words, answer.place)) {
+    if (ask.kind != CACHE_HOLD || answer.kind != CACHE_STR || answer.len < SHARED_HELD)
+        return answer;
+    seats_note(&head->seats, seat);
+    if (seats_may_read(handle, head->words, answer.place)) {
         text->bytes = (const uint8_t *)(head->words + answer.place);
         text->len = answer.len;
         text->seat = seat;

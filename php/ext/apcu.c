@@ -26,7 +26,7 @@ static void start_cache(void)
 	size_t bytes = 0;
 
 	if (apcu_shm_is_good(&shape)) {
-		if (!apcu_shm_start(&shape, !APCU_G(coredump_unmap), &bytes)) {
+		if (!apcu_shm_start(&shape, apcu_settings_is_dumped(), &bytes)) {
 			zend_error(E_CORE_WARNING, "apc_mmap: Failed to mmap %zu bytes. Is your apc.shm_size too large?", bytes);
 		}
 		return;
@@ -60,7 +60,7 @@ static void start_record(void)
 	/* What waits to be written is the process's, and no thread has a part of its own in it. */
 	php_log_err("apcu: where PHP has threads nothing is recorded; apc.record_dir is passed over");
 #else
-	apcu_record_start(APCU_G(record_dir), APCU_G(record_values));
+	tell(apcu_record_start(APCU_G(record_dir), APCU_G(record_values)));
 #endif
 }
 
@@ -78,6 +78,7 @@ static PHP_MINIT_FUNCTION(apcu)
 	if (apcu_shm && APCU_G(preload_path)) {
 		apcu_preload(APCU_G(preload_path));
 	}
+	apcu_record_started();
 	apcu_iterator_start(register_class_APCUIterator(zend_ce_iterator), module_number);
 	return SUCCESS;
 }

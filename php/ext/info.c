@@ -156,6 +156,17 @@ static void add_rows(zval *info, const apcu_rows *list)
 	add_assoc_zval(info, "slot_distribution", &slots);
 }
 
+/* Members that APCu has not. */
+static void add_state(zval *info)
+{
+	apcu_state state = apcu_shm_state();
+
+	add_assoc_long(info, "remakes", (zend_long) state.remakes);
+	add_assoc_long(info, "seats_taken", state.seats);
+	add_assoc_double(info, "longest_wait", (double) state.longest / 1e9);
+	add_assoc_double(info, "longest_entry_wait", (double) state.longest_entry / 1e9);
+}
+
 PHP_FUNCTION(apcu_cache_info)
 {
 	bool is_limited = false, is_there;
@@ -185,7 +196,7 @@ PHP_FUNCTION(apcu_cache_info)
 	shape = apcu_shm->shape;
 	start_time = apcu_shm->start_time;
 
-	array_init_size(return_value, 13);
+	array_init_size(return_value, 17);
 	add_assoc_long(return_value, "num_slots", shape.slots);
 	add_assoc_long(return_value, "ttl", shape.ttl);
 	add_assoc_double(return_value, "num_hits", (double) counts.hits);
@@ -200,6 +211,7 @@ PHP_FUNCTION(apcu_cache_info)
 		add_rows(return_value, &list);
 		apcu_rows_free(&list);
 	}
+	add_state(return_value);
 }
 
 PHP_FUNCTION(apcu_key_info)

@@ -34,8 +34,9 @@ ZEND_BEGIN_MODULE_GLOBALS(apcu)
 	bool record_values;
 
 	time_t request_time;  /* 0: not asked for yet */
-	uint32_t entry_level; /* how deep calls of apcu_entry lie in one another */
-	pid_t entry_owner;    /* the process that took the lock round them */
+	pid_t entry_process;  /* the process that the next two are of */
+	uint32_t entry_owned; /* how many locks of apcu_entry it owns */
+	uint32_t entry_depth[APCU_ENTRY_GROUPS]; /* how many of its callbacks are under each */
 	uint32_t lengths[64]; /* bytes of a long string that was fetched, by its key */
 ZEND_END_MODULE_GLOBALS(apcu)
 
@@ -56,6 +57,10 @@ void apcu_settings_stop(int type, int module_number);
 
 /* The shape of a cache that the settings ask for. */
 cache_shape apcu_settings_shape(void);
+
+/* Whether core dumps contain the cache: if apc.coredump_unmap=0 is set, and not by default. A process
+ * that dumps core keeps the lock until its dump is written. */
+bool apcu_settings_is_dumped(void);
 
 /* preload.c */
 
@@ -106,6 +111,25 @@ time_t apcu_time(void);
 bool apcu_store_value(zend_string *key, zval *value, zend_long ttl, bool is_exclusive);
 bool apcu_store_packed(zend_string *key, const apcu_value *value, time_t t, zend_long ttl, bool is_exclusive);
 bool apcu_delete_key(const zend_string *key);
+
+/* entry.c */
+
+/* What a call of apcu_entry took: nothing, if its process is 0. */
+typedef struct {
+	pid_t process;
+	uint32_t group;
+} apcu_entry_lock;
+
+/* Takes the lock round the callbacks of a key's group, once a process, however many callbacks are in one
+ * another. It may run PHP code. False if an exception was thrown, then nothing was taken; it may also leave
+ * by a bailout. A callback that would never get the lock, as its owner waits for this process, has none. */
+bool apcu_entry_begin(zend_string *key, apcu_entry_lock *lock);
+
+/* Releases it; in a forked child nothing, since the lock is still its parent's. */
+void apcu_entry_end(const apcu_entry_lock *lock);
+
+/* At the end of a request: releases what a callback that never returned left taken. */
+void apcu_entry_leave(void);
 
 /* iterator.c */
 

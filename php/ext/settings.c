@@ -60,6 +60,13 @@ void apcu_settings_stop(int type, int module_number)
 	UNREGISTER_INI_ENTRIES();
 }
 
+bool apcu_settings_is_dumped(void)
+{
+	const char *name = "apc.coredump_unmap";
+
+	return cfg_get_entry(name, strlen(name)) && !APCU_G(coredump_unmap);
+}
+
 static uint32_t within(zend_long number, zend_long most)
 {
 	return (uint32_t) (number < 0 ? 0 : number > most ? most : number);

@@ -15,9 +15,11 @@ apcu_shared *apcu_shm;
  * judged, there is none; else it is malloc's. Written under the lock alone, or before there is a
  * second process. */
 static enum { FROM_MALLOC, FROM_MAPPING, FROM_NOWHERE } source;
-static bool was_remade;
 
-/* Something waits until the lock is given back: events to be recorded, or that the cache was made anew. */
+/* A message for the log about the cache that took the place of another one, or null. */
+static const char *remade_message;
+
+/* Something waits until the lock is released: events to be recorded, or that message. */
 static bool has_news;
 
 /* What the library gets when it asks for memory. */
@@ -121,6 +123,16 @@ bool apcu_shm_is_good(const cache_shape *shape)
 	return is_good;
 }
 
+static bool make_locks(void)
+{
+	for (size_t i = 0; i < APCU_ENTRY_GROUPS; i++) {
+		if (!robust_lock_make(&apcu_shm->entry[i].lock, false)) {
+			return false;
+		}
+	}
+	return robust_lock_make(&apcu_shm->lock, true) && seats_make(&apcu_shm->seats, &apcu_shm->lock);
+}
+
 bool apcu_shm_start(const cache_shape *shape, bool is_dumped, size_t *bytes)
 {
 	size_t page = (size_t) sysconf(_SC_PAGESIZE);
@@ -148,7 +160,7 @@ bool apcu_shm_start(const cache_shape *shape, bool is_dumped, size_t *bytes)
 	apcu_shm = at;
 	apcu_shm->size = size;
 	apcu_shm->shape = *shape;
-	if (robust_lock_make(&apcu_shm->lock, true) && robust_lock_make(&apcu_shm->entry_lock, false)) {
+	if (make_locks()) {
 		make();
 	}
 	if (!apcu_shm->is_made) {
@@ -205,7 +217,10 @@ static void recover(void)
 	if (apcu_shm->is_busy) {
 		make();
 		apcu_shm->remade++;
-		was_remade = has_news = true;
+		remade_message = apcu_shm->is_made
+			? "apcu: a process died while it changed the cache; an empty one has taken its place"
+			: "apcu: a process died while it changed the cache, and no empty one could be made: there is none until PHP restarts";
+		has_news = true;
 		set_busy(false);
 	} else {
 		seats_settle(&apcu_shm->seats);
@@ -236,21 +251,42 @@ bool apcu_lock(void)
 
 void apcu_unlock(void)
 {
-	bool is_news = has_news, is_told = was_remade;
-	const char *fault = NULL;
+	const char *message = remade_message, *fault = NULL;
+	bool is_news = has_news;
 
-	has_news = was_remade = false;
+	has_news = false;
+	remade_message = NULL;
 	robust_lock_give(&apcu_shm->lock);
 	if (UNEXPECTED(is_news)) {
 		fault = apcu_record_write();
 	}
 	let_signals();
-	if (UNEXPECTED(is_told)) {
-		php_log_err("apcu: a process died while it changed the cache; an empty one has taken its place");
+	if (UNEXPECTED(message)) {
+		php_log_err(message);
 	}
 	if (UNEXPECTED(fault)) {
 		php_log_err(fault);
 	}
+}
+
+apcu_state apcu_shm_state(void)
+{
+	apcu_state state = {0};
+
+	if (!apcu_lock()) {
+		return state;
+	}
+	state.remakes = apcu_shm->remade;
+	state.seats = seats_count(&apcu_shm->seats);
+	state.longest = apcu_shm->lock.longest;
+	apcu_unlock();
+	/* Each is written by the owner of that lock, and only grows. */
+	for (size_t i = 0; i < APCU_ENTRY_GROUPS; i++) {
+		if (apcu_shm->entry[i].lock.longest > state.longest_entry) {
+			state.longest_entry = apcu_shm->entry[i].lock.longest;
+		}
+	}
+	return state;
 }
 
 static bool may_drop_rows(uint32_t kind)
@@ -260,7 +296,8 @@ static bool may_drop_rows(uint32_t kind)
 
 cache_answer apcu_ask(const cache_request *request, const zend_string *key, const char *bytes, size_t len)
 {
-	set_busy(true);
+	/* A process that is killed in a call that changes nothing leaves the cache whole. */
+	set_busy(request->kind != CACHE_EXISTS);
 	if (UNEXPECTED(apcu_shm->seats.taken != 0) && may_drop_rows(request->kind)) {
 		seats_sweep(&apcu_shm->seats, apcu_shm->cache);
 	}
@@ -287,8 +324,11 @@ cache_answer apcu_look(const zend_string *key, time_t t, apcu_held *held)
 	cache_answer answer = apcu_ask(&request, key, "", 0);
 
 	held->bytes = NULL;
-	if (request.kind == CACHE_HOLD && answer.kind == CACHE_STR && answer.len >= APCU_HELD_FROM
-			&& seats_may_read(apcu_shm->cache, apcu_shm->words, answer.place)) {
+	if (request.kind != CACHE_HOLD || answer.kind != CACHE_STR || answer.len < APCU_HELD_FROM) {
+		return answer;
+	}
+	seats_note(all, seat);
+	if (seats_may_read(apcu_shm->cache, apcu_shm->words, answer.place)) {
 		held->bytes = (const char *) (apcu_shm->words + answer.place);
 		held->len = (size_t) answer.len;
 		held->seat = seat;
@@ -300,29 +340,4 @@ cache_answer apcu_look(const zend_string *key, time_t t, apcu_held *held)
 bool apcu_let_go(const apcu_held *held)
 {
 	return seats_leave(&apcu_shm->seats, held->seat, held->ticket);
-}
-
-void apcu_entry_begin(void)
-{
-	if (APCU_G(entry_level)++ > 0) {
-		return;
-	}
-	/* It guards no memory, so where its owner died there is nothing to mend. */
-	robust_lock_take(&apcu_shm->entry_lock);
-	APCU_G(entry_owner) = getpid();
-}
-
-void apcu_entry_end(void)
-{
-	if (APCU_G(entry_level) > 0 && --APCU_G(entry_level) == 0 && APCU_G(entry_owner) == getpid()) {
-		robust_lock_give(&apcu_shm->entry_lock);
-	}
-}
-
-void apcu_entry_leave(void)
-{
-	if (APCU_G(entry_level) > 0) {
-		APCU_G(entry_level) = 1;
-		apcu_entry_end();
-	}
 }

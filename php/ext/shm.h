@@ -1,4 +1,4 @@
-/* The memory that all processes of one fork share: a cache, the lock round its calls, and the lock
+/* The memory that all processes of one fork share: a cache, the lock round its calls, and the locks
  * round callbacks of apcu_entry. */
 #ifndef APCU_SHM_H
 #define APCU_SHM_H
@@ -10,14 +10,20 @@
 #include "robust_lock.h"
 #include "seats.h"
 
+/* Keys are spread over as many groups for apcu_entry. */
+#define APCU_ENTRY_GROUPS 64
+
 typedef struct {
 	robust_lock lock;           /* one call of the cache at a time */
-	robust_lock entry_lock;     /* one callback of apcu_entry at a time */
+	struct {
+		robust_lock lock;           /* one callback of apcu_entry for keys of this group at a time */
+		_Atomic uint32_t waits_for; /* 1 + the group whose lock its owner waits for; 0: none */
+	} entry[APCU_ENTRY_GROUPS];
 	volatile bool is_made;      /* there is a cache */
 	volatile bool is_busy;      /* a call that may change it is under way */
 	uint64_t remade;            /* how often a process died in such a call, and the cache was made anew */
 	uint64_t events;            /* how many events this cache had, while they are recorded */
-	bool is_record_over;        /* a process could not record its events */
+	bool is_preload_recorded;   /* a process has the events of the server's start in its file */
 	time_t start_time;          /* when the cache was made or cleared */
 	struct {
 		zend_ulong hash;
@@ -29,7 +35,7 @@ typedef struct {
 	size_t size, used;          /* bytes of the mapping, and of those that were given out */
 	uint8_t *cache;             /* the handle */
 	uint64_t *words;            /* what the places of the cache's strings are in */
-	seats seats;                /* who copies from them outside of the lock */
+	seats seats;                /* the processes that copy from them outside of the lock */
 } apcu_shared;
 
 /* Null where there is no cache in this process. */
@@ -50,6 +56,17 @@ void apcu_shm_stop(void);
  * nobody may call what can run PHP code, take PHP's memory or leave by a bailout. Signals wait. */
 bool apcu_lock(void);
 void apcu_unlock(void);
+
+/* What an operator watches besides the cache's own counts, since the server started. */
+typedef struct {
+	uint64_t remakes;       /* how often a process died in a call, and the cache was emptied */
+	unsigned seats;         /* seats that are taken now */
+	uint64_t longest;       /* nanoseconds of the longest wait for the lock, of those that slept */
+	uint64_t longest_entry; /* the same of a lock of apcu_entry */
+} apcu_state;
+
+/* Without the lock; all are 0 if there is no cache. */
+apcu_state apcu_shm_state(void);
 
 /* One event of the cache, under the lock. */
 cache_answer apcu_ask(const cache_request *request, const zend_string *key, const char *bytes, size_t len);
@@ -73,13 +90,5 @@ cache_answer apcu_look(const zend_string *key, time_t t, apcu_held *held);
 /* Lets a string go, outside of the lock. False where it was not held any more: what was read of it may be
  * of other rows. So it is where the cache was made anew. */
 bool apcu_let_go(const apcu_held *held);
-
-/* The lock round callbacks of apcu_entry. It is taken once a process, however deep the callbacks lie
- * in one another, and a forked child does not give back what its parent took. */
-void apcu_entry_begin(void);
-void apcu_entry_end(void);
-
-/* At the end of a request: gives back what a callback that never returned left taken. */
-void apcu_entry_leave(void);
 
 #endif

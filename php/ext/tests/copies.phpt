@@ -98,8 +98,6 @@ unlink($count);
 echo implode(',', array_unique($ended)), "\n";
 
 // What the killed ones copied is free again.
-sleep(2);
-apcu_store('next', 1);
 apcu_clear_cache();
 apcu_store('next', 1);
 $row = apcu_sma_info(true);

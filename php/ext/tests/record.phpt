@@ -28,9 +28,11 @@ echo taken_record($folder);
 echo "off\n";
 run_php('apcu_store("a", 1);', 'apc.record_dir=');
 run_php('var_dump(ini_set("apc.record_dir", "/tmp"));');
-run_php('1;', "apc.record_dir=$folder");
 run_php('apcu_store("a", 1);', "apc.record_dir=$folder", 'apc.enable_cli=0');
 var_dump(is_dir($folder));
+run_php('1;', "apc.record_dir=$folder");
+var_dump(scandir($folder) === ['.', '..']);
+rmdir($folder);
 ?>
 --EXPECT--
 shm-size 33554432
@@ -113,3 +115,4 @@ i:1;b:1;
 b:1;
 off
 bool(false)
+bool(true)
