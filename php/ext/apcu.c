@@ -86,6 +86,7 @@ static PHP_MINIT_FUNCTION(apcu)
 static PHP_MSHUTDOWN_FUNCTION(apcu)
 {
 	tell(apcu_record_stop());
+	apcu_kept_stop();
 	apcu_shm_stop();
 	apcu_settings_stop(type, module_number);
 	return SUCCESS;
@@ -97,6 +98,7 @@ static PHP_RINIT_FUNCTION(apcu)
 	ZEND_TSRMLS_CACHE_UPDATE();
 #endif
 	APCU_G(request_time) = 0;
+	apcu_kept_start_request();
 	if (apcu_shm) {
 		/* Modules that start after this one have registered by now. */
 		apcu_serializers_find();
@@ -108,6 +110,13 @@ static PHP_RSHUTDOWN_FUNCTION(apcu)
 {
 	apcu_entry_leave();
 	tell(apcu_record_leave());
+	return SUCCESS;
+}
+
+/* Save handlers of sessions and output callbacks have run by now: no code of the request fetches a value any more. */
+static ZEND_MODULE_POST_ZEND_DEACTIVATE_D(apcu)
+{
+	apcu_kept_end_request();
 	return SUCCESS;
 }
 
@@ -130,7 +139,7 @@ zend_module_entry apcu_module_entry = {
 	PHP_MODULE_GLOBALS(apcu),
 	PHP_GINIT(apcu),
 	NULL,
-	NULL,
+	ZEND_MODULE_POST_ZEND_DEACTIVATE_N(apcu),
 	STANDARD_MODULE_PROPERTIES_EX
 };
 

@@ -21,6 +21,6 @@ if test "$PHP_APCU" != "no"; then
   PHP_SUBST([APCU_SHARED_LIBADD])
 
   APCU_CFLAGS="-std=gnu11 -D_GNU_SOURCE -DZEND_ENABLE_STATIC_TSRMLS_CACHE=1 -fvisibility=hidden -Wall -Wextra -Wno-unused-parameter"
-  PHP_NEW_EXTENSION([apcu], [apcu.c entry.c functions.c info.c iterator.c preload.c record.c settings.c shm.c values.c],
+  PHP_NEW_EXTENSION([apcu], [apcu.c entry.c functions.c info.c iterator.c kept.c preload.c record.c settings.c shm.c values.c],
     [$ext_shared],, [$APCU_CFLAGS])
 fi

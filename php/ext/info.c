@@ -160,11 +160,15 @@ static void add_rows(zval *info, const apcu_rows *list)
 static void add_state(zval *info)
 {
 	apcu_state state = apcu_shm_state();
+	apcu_kept_counts kept = apcu_kept_count();
 
 	add_assoc_long(info, "remakes", (zend_long) state.remakes);
 	add_assoc_long(info, "seats_taken", state.seats);
 	add_assoc_double(info, "longest_wait", (double) state.longest / 1e9);
 	add_assoc_double(info, "longest_entry_wait", (double) state.longest_entry / 1e9);
+	add_assoc_long(info, "kept_entries", (zend_long) kept.entries);
+	add_assoc_double(info, "kept_size", (double) kept.bytes);
+	add_assoc_double(info, "kept_hits", (double) kept.hits);
 }
 
 PHP_FUNCTION(apcu_cache_info)
@@ -196,7 +200,7 @@ PHP_FUNCTION(apcu_cache_info)
 	shape = apcu_shm->shape;
 	start_time = apcu_shm->start_time;
 
-	array_init_size(return_value, 17);
+	array_init_size(return_value, 20);
 	add_assoc_long(return_value, "num_slots", shape.slots);
 	add_assoc_long(return_value, "ttl", shape.ttl);
 	add_assoc_double(return_value, "num_hits", (double) counts.hits);
@@ -305,6 +309,20 @@ PHP_FUNCTION(apcu_sma_info)
 	add_assoc_zval(return_value, "block_lists", &segments);
 }
 
+static void print_kept(void)
+{
+	apcu_kept_counts kept = apcu_kept_count();
+	char text[3 * (MAX_LENGTH_OF_LONG + 1) + 64];
+
+	if (!apcu_keeps()) {
+		php_info_print_table_row(2, "Kept Values", "Disabled");
+		return;
+	}
+	snprintf(text, sizeof text, "%zu of %zu bytes, with " ZEND_ULONG_FMT " hits, in this process", kept.entries, kept.bytes,
+		(zend_ulong) kept.hits);
+	php_info_print_table_row(2, "Kept Values", text);
+}
+
 void apcu_info_print(void)
 {
 	php_info_print_table_start();
@@ -322,6 +340,7 @@ void apcu_info_print(void)
 		zend_string_release(names);
 		snprintf(remade, sizeof remade, ZEND_ULONG_FMT, (zend_ulong) apcu_shm->remade);
 		php_info_print_table_row(2, "Made Anew After A Kill", remade);
+		print_kept();
 	} else {
 		php_info_print_table_row(2, "Serialization Support", "Disabled");
 	}

@@ -32,6 +32,7 @@ ZEND_BEGIN_MODULE_GLOBALS(apcu)
 	char *serializer_name;
 	char *record_dir;
 	bool record_values;
+	zend_long kept_size;
 
 	time_t request_time;  /* 0: not asked for yet */
 	pid_t entry_process;  /* the process that the next two are of */
@@ -81,8 +82,12 @@ typedef struct {
 	unsigned char *data; /* the same, by another module */
 } apcu_value;
 
-/* False where a value can't be stored; a warning or an exception says why. It may run PHP code. */
-bool apcu_pack(apcu_value *out, zval *value);
+/* Strings of at least this length may be stamped. It takes less time to copy a shorter one than to look it up. */
+#define APCU_LONG_STRING (64 * 1024)
+
+/* False where a value can't be stored; a warning or an exception says why. It may run PHP code. A long string is
+ * copied to be stamped, an array is not. */
+bool apcu_pack(apcu_value *out, zval *value, bool stamps_string);
 
 /* A value of which there is a text of serialize already. */
 void apcu_pack_text(apcu_value *out, const char *text, size_t len);
@@ -94,6 +99,17 @@ void apcu_value_free(apcu_value *value);
  * `out` is null or as it was. It may run PHP code. */
 bool apcu_unpack(zval *out, const cache_answer *answer, char *bytes, zend_string *text);
 
+/* A stamp and the mark: the last bytes of a stamped value. They begin at a word of the cache. */
+#define APCU_TAIL (sizeof(uint64_t) + 1)
+
+static inline bool apcu_may_have_stamp(uint64_t len)
+{
+	return len > sizeof(uint64_t) && len % sizeof(uint64_t) == 1;
+}
+
+/* The stamp of a value by its last bytes. No two stores of arrays or long strings have the same one; 0: there is none. */
+uint64_t apcu_stamp_of(const uint8_t tail[APCU_TAIL]);
+
 void apcu_serializers_start(int module_number);
 
 /* Looks for apc.serializer among those that were registered, until it is there. */
@@ -101,6 +117,41 @@ void apcu_serializers_find(void);
 
 /* Their names, with commas between. */
 zend_string *apcu_serializers_names(void);
+
+/* kept.c: values that this process has built of a row's bytes, and returns again */
+
+typedef struct apcu_kept apcu_kept;
+
+typedef struct {
+	size_t entries; /* values that may be returned again */
+	size_t bytes;   /* of memory, with values that wait for the request's end to be freed */
+	uint64_t hits;  /* fetches that returned one */
+} apcu_kept_counts;
+
+/* Whether values are kept: if apc.kept_size is set, calls are not recorded, and PHP has no threads. */
+bool apcu_keeps(void);
+
+/* When a request starts: frees what was evicted before. */
+void apcu_kept_start_request(void);
+
+/* When all code of a request has ended: evicts the values that were not used for longest, if others lacked room. */
+void apcu_kept_end_request(void);
+
+/* When PHP stops, and no request has values any more. */
+void apcu_kept_stop(void);
+
+/* While the lock is held, after a look-up found a string of `len` bytes at this place: the kept value of these bytes,
+ * or null. It takes no memory, and the value stays until the request ends. */
+apcu_kept *apcu_kept_find(zend_string *key, uint32_t place, uint64_t len);
+
+/* Outside of the lock: returns a kept value. */
+void apcu_kept_use(zval *out, apcu_kept *kept);
+
+/* Outside of the lock: keeps a value that was built of bytes with this stamp, if it is the second one of the stamp.
+ * `value` is the kept one then. Objects, resources and references are not kept, nor what holds one. */
+void apcu_kept_admit(zend_string *key, uint64_t stamp, zval *value);
+
+apcu_kept_counts apcu_kept_count(void);
 
 /* functions.c */
 

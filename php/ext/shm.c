@@ -311,7 +311,12 @@ cache_answer apcu_ask(const cache_request *request, const zend_string *key, cons
 	return answer;
 }
 
-cache_answer apcu_look(const zend_string *key, time_t t, apcu_held *held)
+uint64_t apcu_shm_stamp(void)
+{
+	return atomic_fetch_add_explicit(&apcu_shm->stamps, 1, memory_order_relaxed) + 1;
+}
+
+cache_answer apcu_look(zend_string *key, time_t t, apcu_held *held, apcu_kept **kept)
 {
 	seats *all = &apcu_shm->seats;
 	unsigned seat = apcu_is_recorded ? CACHE_SEATS : seats_free(all);
@@ -324,11 +329,12 @@ cache_answer apcu_look(const zend_string *key, time_t t, apcu_held *held)
 	cache_answer answer = apcu_ask(&request, key, "", 0);
 
 	held->bytes = NULL;
+	*kept = answer.kind == CACHE_STR && APCU_G(kept_size) > 0 ? apcu_kept_find(key, answer.place, answer.len) : NULL;
 	if (request.kind != CACHE_HOLD || answer.kind != CACHE_STR || answer.len < APCU_HELD_FROM) {
 		return answer;
 	}
 	seats_note(all, seat);
-	if (seats_may_read(apcu_shm->cache, apcu_shm->words, answer.place)) {
+	if (!*kept && seats_may_read(apcu_shm->cache, apcu_shm->words, answer.place)) {
 		held->bytes = (const char *) (apcu_shm->words + answer.place);
 		held->len = (size_t) answer.len;
 		held->seat = seat;

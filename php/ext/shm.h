@@ -24,6 +24,7 @@ typedef struct {
 	uint64_t remade;            /* how often a process died in such a call, and the cache was made anew */
 	uint64_t events;            /* how many events this cache had, while they are recorded */
 	bool is_preload_recorded;   /* a process has the events of the server's start in its file */
+	_Atomic uint64_t stamps;    /* how many stamps were given to values; it goes on in a cache that is made later */
 	time_t start_time;          /* when the cache was made or cleared */
 	struct {
 		zend_ulong hash;
@@ -71,6 +72,9 @@ apcu_state apcu_shm_state(void);
 /* One event of the cache, under the lock. */
 cache_answer apcu_ask(const cache_request *request, const zend_string *key, const char *bytes, size_t len);
 
+/* A number that no other call returns in any process, from 1 on. It needs no lock. */
+uint64_t apcu_shm_stamp(void);
+
 /* A string that is copied when the lock was given back; null bytes: there is none. Its bytes stay as they
  * are until it is let go, whatever others store, delete or clear. */
 typedef struct {
@@ -83,9 +87,11 @@ typedef struct {
 /* The bytes from which on a string is copied so. From some 3,000 on that takes less time, alone too. */
 #define APCU_HELD_FROM 4096
 
+struct apcu_kept;
+
 /* One event under the lock: a look-up. A long string that it finds is held, but while calls are recorded,
- * and while many others are. */
-cache_answer apcu_look(const zend_string *key, time_t t, apcu_held *held);
+ * and while many others are, and unless its value is kept. */
+cache_answer apcu_look(zend_string *key, time_t t, apcu_held *held, struct apcu_kept **kept);
 
 /* Lets a string go, outside of the lock. False where it was not held any more: what was read of it may be
  * of other rows. So it is where the cache was made anew. */

@@ -5,13 +5,20 @@
 #include "zend_constants.h"
 #include "zend_smart_str.h"
 
-/* The last byte of a string of the cache. That of a string is the zero which PHP has behind each. */
+/* The last byte of a string of the cache. That of a string is the zero which PHP has behind each. A stamped value has
+ * text, from 0 to 7 zeros up to the next word, the stamp in a word, and the mark. */
 enum {
 	MARK_TEXT = 0,
 	MARK_PHP = 1,       /* as serialize writes it */
 	MARK_DOUBLE = 2,
-	MARK_OTHER = 3      /* as a serializer of another module writes it */
+	MARK_OTHER = 3,     /* as a serializer of another module writes it */
+	MARK_KINDS = 7,
+	MARK_STAMPED = 8,
+	MARK_ZEROS = 16     /* times the number of zeros */
 };
+
+/* The most bytes of zeros, stamp and mark. */
+#define MOST_TAIL (sizeof(uint64_t) - 1 + APCU_TAIL)
 
 /* What other modules register, as APCu has it: they find the function by a constant. */
 typedef int (*serialize_t)(unsigned char **buf, size_t *len, const zval *value, void *config);
@@ -132,12 +139,56 @@ static int php_unserialize(zval *value, unsigned char *buf, size_t len, void *co
 	return value_of(value, buf, len);
 }
 
-static void pack_text(apcu_value *out, smart_str *text, char mark)
+uint64_t apcu_stamp_of(const uint8_t tail[APCU_TAIL])
 {
-	smart_str_appendc(text, mark);
+	uint64_t stamp = 0;
+
+	if (tail[sizeof stamp] & MARK_STAMPED) {
+		memcpy(&stamp, tail, sizeof stamp);
+	}
+	return stamp;
+}
+
+/* What a value has behind `len` bytes of text; how many bytes that are. */
+static size_t write_tail(char *at, size_t len, char mark, bool is_stamped)
+{
+	if (!is_stamped) {
+		*at = mark;
+		return 1;
+	}
+
+	uint64_t stamp = apcu_shm_stamp();
+	size_t zeros = (sizeof stamp - len % sizeof stamp) % sizeof stamp;
+	memset(at, 0, zeros);
+	memcpy(at + zeros, &stamp, sizeof stamp);
+	at[zeros + sizeof stamp] = (char) (mark + MARK_STAMPED + MARK_ZEROS * zeros);
+	return zeros + APCU_TAIL;
+}
+
+static void pack_text(apcu_value *out, smart_str *text, char mark, bool is_stamped)
+{
+	char tail[MOST_TAIL];
+
+	smart_str_appendl(text, tail, write_tail(tail, ZSTR_LEN(text->s), mark, is_stamped));
 	out->text = text->s;
 	out->bytes = ZSTR_VAL(text->s);
 	out->len = ZSTR_LEN(text->s);
+}
+
+/* A stamped copy of a string. */
+static void pack_string(apcu_value *out, const zend_string *value)
+{
+	zend_string *text = zend_string_alloc(ZSTR_LEN(value) + MOST_TAIL, 0);
+
+	memcpy(ZSTR_VAL(text), ZSTR_VAL(value), ZSTR_LEN(value));
+	out->text = text;
+	out->bytes = ZSTR_VAL(text);
+	out->len = ZSTR_LEN(value) + write_tail(ZSTR_VAL(text) + ZSTR_LEN(value), ZSTR_LEN(value), MARK_TEXT, true);
+}
+
+static bool is_stamped(const zval *value)
+{
+	return Z_TYPE_P(value) == IS_ARRAY && apcu_keeps();
 }
 
 static bool pack_by_php(apcu_value *out, zval *value)
@@ -147,7 +198,7 @@ static bool pack_by_php(apcu_value *out, zval *value)
 	if (!write_text(&text, value)) {
 		return false;
 	}
-	pack_text(out, &text, MARK_PHP);
+	pack_text(out, &text, MARK_PHP, is_stamped(value));
 	return true;
 }
 
@@ -158,10 +209,9 @@ static bool pack_by_other(apcu_value *out, const zval *value)
 	if (!serializer->serialize(&out->data, &len, value, serializer->config)) {
 		return false;
 	}
-	out->data = erealloc(out->data, len + 1);
-	out->data[len] = MARK_OTHER;
+	out->data = erealloc(out->data, len + MOST_TAIL);
 	out->bytes = (const char *) out->data;
-	out->len = len + 1;
+	out->len = len + write_tail((char *) out->data + len, len, MARK_OTHER, is_stamped(value));
 	return true;
 }
 
@@ -181,10 +231,10 @@ void apcu_pack_text(apcu_value *out, const char *text, size_t len)
 
 	start(out);
 	smart_str_appendl(&bytes, text, len);
-	pack_text(out, &bytes, MARK_PHP);
+	pack_text(out, &bytes, MARK_PHP, *text == 'a' && apcu_keeps());
 }
 
-bool apcu_pack(apcu_value *out, zval *value)
+bool apcu_pack(apcu_value *out, zval *value, bool stamps_string)
 {
 	start(out);
 	ZVAL_DEREF(value);
@@ -209,6 +259,10 @@ bool apcu_pack(apcu_value *out, zval *value)
 			out->len = sizeof out->eight;
 			return true;
 		case IS_STRING:
+			if (stamps_string && Z_STRLEN_P(value) >= APCU_LONG_STRING) {
+				pack_string(out, Z_STR_P(value));
+				return true;
+			}
 			out->bytes = Z_STRVAL_P(value);
 			out->len = Z_STRLEN_P(value) + 1;
 			return true;
@@ -281,10 +335,13 @@ bool apcu_unpack(zval *out, const cache_answer *answer, char *bytes, zend_string
 			is_read = answer->len > 0;
 			if (is_read) {
 				size_t len = (size_t) answer->len - 1;
-				char mark = bytes[len];
+				unsigned char mark = (unsigned char) bytes[len];
 
+				if (mark & MARK_STAMPED) {
+					len -= MIN(len, sizeof(uint64_t) + mark / MARK_ZEROS);
+				}
 				bytes[len] = '\0';
-				is_read = unpack_bytes(out, bytes, len, mark, &text);
+				is_read = unpack_bytes(out, bytes, len, mark & MARK_KINDS, &text);
 			}
 			break;
 		default:

@@ -24,7 +24,8 @@ error_reporting(E_ALL & ~E_DEPRECATED);
 /** The members of apcu_cache_info that APCu has. */
 function without_ours(array $info): array
 {
-    return array_diff_key($info, array_flip(['remakes', 'seats_taken', 'longest_wait', 'longest_entry_wait']));
+    return array_diff_key($info, array_flip(['remakes', 'seats_taken', 'longest_wait', 'longest_entry_wait',
+        'kept_entries', 'kept_size', 'kept_hits']));
 }
 
 /** What hooks and warnings did during a call. */

@@ -35,15 +35,15 @@ foreach ($extension->getConstants() as $name => $value) {
     echo str_starts_with($name, 'APC_') ? "$name $value\n" : '';
 }
 foreach (ini_get_all('apcu') as $name => $setting) {
-    // Those of the record are not APCu's.
-    echo str_starts_with($name, 'apc.record_') ? '' : "$name {$setting['access']}\n";
+    // Those of the record and of kept values are not APCu's.
+    echo preg_match('/^apc\.(record|kept)_/', $name) ? '' : "$name {$setting['access']}\n";
 }
 echo $extension->isPersistent() ? 'persistent' : '', "\n";
 var_dump(version_compare(phpversion('apcu'), '5.1.18', '>='));
 ob_start();
 $extension->info();
 foreach (explode("\n", ob_get_clean()) as $line) {
-    if (preg_match('/^(APCu Support|MMAP Support|Serialization Support|Directive|apc\.\w+) => .*/', $line) && !preg_match('/shm_size|enable_cli|record_/', $line)) {
+    if (preg_match('/^(APCu Support|MMAP Support|Serialization Support|Directive|apc\.\w+) => .*/', $line) && !preg_match('/shm_size|enable_cli|record_|kept_/', $line)) {
         echo preg_replace('/(Serialization Support => php).*/', '$1', trim($line)), "\n";
     }
 }
