@@ -43,14 +43,15 @@ php_with() {
 }
 
 # Prints the folder of APCu's own source, of the Debian package, which is fetched into the scratch folder; or SOURCE.
-# It is asked for where the system has its packages from; only the lists that this needs are read, none of the system's
-# are changed.
 source_of_apcu() {
-    local folder="$scratch/source" options file
-    if [ -n "${SOURCE:-}" ]; then
-        echo "$SOURCE"
-        return
-    fi
+    if [ -n "${SOURCE:-}" ]; then echo "$SOURCE"; else source_of php-apcu 'apcu-*'; fi
+}
+
+# Prints the newest folder with such a name in the source of a Debian package, which is fetched into the scratch folder:
+# source_of PACKAGE NAME. The source is fetched from where the system has its packages from; only the lists that this
+# needs are read, none of the system's are changed. If the newest version has no source there, an older one is taken.
+source_of() {
+    local package=$1 name=$2 folder="$scratch/source" options file version
     mkdir -p "$folder"/{lists,cache/archives,parts}/partial
     for file in /etc/apt/sources.list /etc/apt/sources.list.d/*.list; do
         [ -f "$file" ] && sed -n 's/^ *deb /deb-src /p' "$file" >"$folder/parts/$(basename "$file" .list).list"
@@ -63,9 +64,11 @@ source_of_apcu() {
     (
         cd "$folder"
         apt-get "${options[@]}" update
-        apt-get "${options[@]}" --download-only source php-apcu
-        tar -xJf php-apcu_*.orig.tar.xz
+        for version in $(apt-cache "${options[@]}" showsrc "$package" | sed -n 's/^Version: //p' | sort -rV); do
+            apt-get "${options[@]}" --download-only source "$package=$version" && break
+        done
+        tar -xJf "$package"_*.orig.tar.xz
     ) >"$folder/log" 2>&1 || { cat "$folder/log" >&2; return 1; }
-    # The package has the version for old PHP, too.
-    find "$folder" -maxdepth 1 -name 'apcu-*' | sort -V | tail -n 1
+    # The package of APCu has the version for old PHP, too.
+    find "$folder" -maxdepth 1 -type d -name "$name" | sort -V | tail -n 1
 }
