@@ -1,6 +1,7 @@
 #!/usr/bin/env bash
 # Processor time of each call of PHP beside PHP's APCu, in one process, in one run: keys of 10 and of 60 bytes, 1,000 and 100,000
-# rows of three kinds each. Both are measured in turn in each round; a ratio is ours / APCu's.
+# rows of three kinds each. Both are measured in turn in each round; a ratio is ours / APCu's. Then large values, with
+# kept values and without, by kept.sh.
 # Usage: bench/ext/run.sh [SO]; it needs php-apcu. ROUNDS and NOISY in the environment are those of bench/quiet.sh.
 set -eu
 here=$(cd "$(dirname "${BASH_SOURCE[0]}")/../../php/ext/checks" && pwd)
@@ -39,3 +40,5 @@ for rows in 1000 100000; do
     done
 done
 tell_of_quiet
+echo
+"$here/kept.sh" "$ours"
