@@ -20,7 +20,7 @@ for folder; do
     mkdir -p "$scratch/tests/$folder"
     cp -R "$SOURCE/$folder/." "$scratch/tests/$folder"
 done
-php -n -d extension=tokenizer "$here/kept-rewrite.php" "$scratch/tests" 2>"$scratch/arrays" | sort >"$scratch/list"
+php -n -d extension=tokenizer -d display_errors=0 "$here/kept-rewrite.php" "$scratch/tests" 2>"$scratch/arrays" | sort >"$scratch/list"
 echo "$(wc -l <"$scratch/list") tests with $(cat "$scratch/arrays") arrays"
 
 # The outcome of each test: outcomes TO SETTING..
