@@ -15,11 +15,11 @@ ghost use Rattle.apcu_play.specs.Tasks.{ending_for, verdict_text};
 
 use crate::play::Printed;
 use crate::status::Status;
-use row_search::Maker;
 use apcu_model::{Clock, Conf};
 use crew_play::CrewFault;
 use itoa::Buffer;
 use notation::ByteOut;
+use row_search::Maker;
 use run_verify::{Verdict, VerifyFault, verify};
 use script_read::{Scripts, event_count};
 use std::alloc::{AllocError, Global};

@@ -1,9 +1,9 @@
 //! The program: `main`, which hands its words and the standard streams to `apcu_play::run`.
 #![tactic(auto)]
 
-use row_search::RegexMaker;
 use apcu_play::{Status, run, tell};
 use io_edges::{NoGate, StdSink, StdSource};
+use row_search::RegexMaker;
 use std::alloc::AllocError;
 use std::env;
 use std::io::ErrorKind;

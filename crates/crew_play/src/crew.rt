@@ -18,10 +18,10 @@ ghost use Rattle.worker_play.specs.declared.script.Lines.TheVariants.{Kept};
 ghost use Rattle.worker_play.specs.declared.script.PlayFault.TheVariants as faults;
 
 use crate::cast::Cast;
-use row_search::Maker;
 use io_edges::Gate;
 use notation::ByteOut;
 use pin_table::{Ended, EndedList, Pass, Passes, TableName};
+use row_search::Maker;
 use script_read::{Script, ScriptSteps, Scripts, scripts_cross};
 use shared_cache::Shared;
 use std::sync::Wait;

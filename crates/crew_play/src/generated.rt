@@ -21,7 +21,6 @@ ghost use Rattle.crew_play.specs.declared.play.CrewFault.TheVariants.{Memory, To
 
 use crate::crew::last_pass;
 use crate::play::CrewFault;
-use row_search::Maker;
 use apcu_model::{Clock, Conf, MOST_EVENTS};
 use io_edges::Gate;
 use notation::ByteOut;
@@ -29,6 +28,7 @@ use pin_table::{Ended, EndedList, Pass, Passes, TableName};
 use play_laws::{
     generated_wishes, histories_are_plays, looks_come_last, one_event_own, summaries_agree,
 };
+use row_search::Maker;
 use script_read::DrawnSteps;
 use shared_cache::{Closed, Fresh, Shared, open_cache};
 use std::alloc::{AllocError, Global};

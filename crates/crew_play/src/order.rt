@@ -11,10 +11,10 @@ ghost use Rattle.worker_play.specs.declared.script.PlayFault.TheVariants as faul
 
 use crate::cast::Cast;
 use crate::crew::{last_worker, play_crew};
-use row_search::Maker;
 use io_edges::Gate;
 use notation::ByteOut;
 use pin_table::{EndedList, Passes, TableName};
+use row_search::Maker;
 use script_read::ScriptSteps;
 use shared_cache::Shared;
 use std::sync::Wait;

@@ -5,8 +5,8 @@ ghost use Rattle.script_read.specs.Patterns.{IsRefusable, HasRefusable, SomeRefu
 ghost use Rattle.crew_play.specs.declared.play.CrewFault.TheVariants as faults;
 
 use crate::play::CrewFault;
-use row_search::{Maker, SearchFault};
 use apcu_model::Pattern;
+use row_search::{Maker, SearchFault};
 use script_read::{Script, Scripts};
 use std::alloc::Global;
 

@@ -19,13 +19,13 @@ ghost use Rattle.apcu_model.specs.Cache.{Row};
 ghost use Rattle.mark_play.specs.Windows.{window_by, window_on};
 
 use apcu_iter::{chunk, chunk_delete, totals};
-use row_search::Search;
 use apcu_model::{Ask, Reply, StoreAnswer};
 use cache_core::Core;
 use cache_info::{cache_info, key_info, sma_info};
 use counter_entry::{IncAnswer, cas, entry, inc};
 use entry_slots::EntrySlots;
 use php_graph::{Bytes, Graph, Kind};
+use row_search::Search;
 use seg_words::{Segment, WordsIn};
 use std::alloc::{AllocError, Global};
 use std::marker::Model;

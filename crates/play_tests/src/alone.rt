@@ -4,11 +4,11 @@ ghost use Rattle.std.specs.Prelude.{◌≡◌, ◌∷◌, [], IfSome};
 ghost use Rattle.pin_table.specs.Lists.{first_passes, first_pass};
 
 use crate::playing::{CONF, plays, script_of};
-use row_search::{Maker, RefuseAll, RegexMaker};
 use apcu_model::Clock;
 use io_edges::NoGate;
 use notation::ByteOut;
 use pin_table::{Pass, Passes, TableName};
+use row_search::{Maker, RefuseAll, RegexMaker};
 use script_read::Script;
 use shared_cache::{Closed, Fresh, open_cache};
 use std::alloc::Global;

@@ -8,11 +8,11 @@ ghost use Rattle.worker_play.specs.Goes.{KnowsOwnEvents};
 
 use crate::gates::Noting;
 use crate::playing::{CONF, plays, script_of};
-use row_search::RegexMaker;
 use apcu_model::{Clock, Journal};
 use io_edges::{Gate, Point};
 use notation::ByteOut;
 use pin_table::{Pass, Passes, TableName};
+use row_search::RegexMaker;
 use script_read::{Script, scripts_cross};
 use shared_cache::{Closed, Fresh, open_cache};
 use std::alloc::Global;

@@ -4,11 +4,11 @@ ghost use Rattle.std.specs.Prelude.{◌≡◌, ◌<◌, ◌≤◌, IsTrue, [], l
 ghost use Rattle.script_read.specs.Budgets.{events_in};
 ghost use Rattle.worker_play.specs.Goes.{KnowsOwnEvents};
 
-use row_search::Maker;
 use apcu_model::{Clock, Conf};
 use io_edges::Gate;
 use notation::ByteOut;
 use pin_table::{Pass, TableName};
+use row_search::Maker;
 use script_read::{Script, read_scripts};
 use shared_cache::Shared;
 use std::alloc::Global;

@@ -1,8 +1,8 @@
 //! Verdicts on outputs, as tables.
 
 use crate::playing::CONF;
-use row_search::{Maker, RefuseAll, RegexMaker};
 use apcu_model::Clock;
+use row_search::{Maker, RefuseAll, RegexMaker};
 use run_verify::{Verdict, VerifyFault, plays_are_short, verify};
 use script_read::{event_count, read_scripts};
 use std::alloc::Global;

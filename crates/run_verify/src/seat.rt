@@ -11,10 +11,10 @@ ghost use Rattle.run_verify.specs.Seats.{queried_wish};
 ghost use Rattle.run_verify.specs.Seats.{HasReplyMore, IsAskable, queried};
 
 use crate::asking::{Query, asks, query_of, slot_after};
-use row_search::{RefuseAll, Search};
 use apcu_model::{Ask, Clock, Conf, Reply};
 use notation::ByteOut;
 use reply_text::{Replies, render};
+use row_search::{RefuseAll, Search};
 use script_read::{Call, Script};
 use std::alloc::{AllocError, Global};
 use std::marker::Model;

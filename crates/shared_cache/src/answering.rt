@@ -12,12 +12,12 @@ ghost use Rattle.shared_cache.specs.Follows.{Follows, FollowsEntry};
 use crate::locked_cache::LockedCache;
 use crate::under_lock::{begin, end_or_give_back};
 use apcu_iter::{chunk, chunk_delete, totals};
-use row_search::Search;
 use apcu_model::{Ask, Chunk, Fields, Gen, List};
 use cache_info::{cache_info, key_info, sma_info};
 use counter_entry::{Fate, entry};
 use php_graph::Graph;
 use pin_table::{Pass, PinTable, TableName};
+use row_search::Search;
 use std::alloc::{AllocError, Global};
 use std::marker::Model;
 

@@ -10,11 +10,11 @@ ghost use Rattle.shared_cache.specs.Follows.{Follows, FollowsEntry};
 
 use crate::shared::Shared;
 use crate::wait_lock::locked;
-use row_search::Search;
 use apcu_model::{Chunk, Fields, Gen, List};
 use counter_entry::Fate;
 use php_graph::Graph;
 use pin_table::{Pass, TableName};
+use row_search::Search;
 use std::alloc::{AllocError, Global};
 use std::marker::Model;
 use std::sync::Wait;
