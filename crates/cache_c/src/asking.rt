@@ -57,7 +57,7 @@ pub struct Ask {
 pub struct Answer {
     /// Which answer.
     pub kind: u32,
-    /// Where the bytes of a string stand.
+    /// The place of a string's bytes.
     pub place: u32,
     /// The number of an integer; 0 or 1 of a truth value.
     pub number: i64,
@@ -166,8 +166,8 @@ fn stored(answer: StoreAnswer) -> u32
     }
 }
 
-// Whether a seat is taken for this answer: there is one of this number, and a string of so many
-// bytes.
+// Whether a seat is taken for this answer: there is one of this number, and the answer is a string
+// of at least `least` bytes.
 fn is_long(answer: &Answer, seat: u64, least: u64) -> bool
     ensures yes { result ≡ true → (seat < 64) × (answer.now.kind ≡ STR)
         × (least ≤ answer.now.len) }
@@ -184,8 +184,8 @@ fn is_long(answer: &Answer, seat: u64, least: u64) -> bool
 }
 
 impl Cache {
-    /// One event: what is asked, its key, and the bytes of the value that is stored. What seats
-    /// hold stands where it stood, but for the seat that a `HOLD` takes.
+    /// One event: what is asked, its key, and the bytes of the value that is stored. What a seat
+    /// holds does not move, except for the seat that a `HOLD` takes.
     pub(crate) fn ask(&mut self, ask: &Ask, key: &[u8], bytes: &[u8]) -> Answer
         requires may { MayAsk self.old ask.now key.now }
         ensures stand { StandsForCache self.new }
@@ -339,8 +339,8 @@ impl Cache {
         }
     }
 
-    // The same, and where it answers a string of so many bytes or more, the seat holds its row from
-    // now on.
+    // The same. If it answers a string of at least `least` bytes, the seat holds its row from now
+    // on.
     fn hold(&mut self, key: &[u8], slot: u32, seat: u64, least: u64, t: u64) -> Answer
         requires short { length key.now < 2 ^ 32 }
         requires slot { slot ≡ slot_of self.old.core.conf key.now }
@@ -374,7 +374,8 @@ impl Cache {
         self.words.hold(seat, at);
     }
 
-    /// The seat holds nothing from now on; false where there is none of this number.
+    /// Releases a seat, which holds nothing from now on. Returns false if there is none of this
+    /// number.
     pub(crate) fn let_go(&mut self, seat: u32) -> bool
         requires stand { StandsForCache self.old }
         ensures stand { StandsForCache self.new }
@@ -434,7 +435,7 @@ impl Cache {
         counted(answer)
     }
 
-    // Sets the integer where it is the expected one.
+    // Sets the integer if it is the expected one.
     fn swap(&mut self, key: &[u8], slot: u32, expect: u64, set: u64, t: u64) -> u32
         requires short { length key.now < 2 ^ 32 }
         requires slot { slot ≡ slot_of self.old.core.conf key.now }
@@ -461,8 +462,7 @@ impl Cache {
         YES
     }
 
-    // What is told of the row of the key, which stands at this place, if it holds no
-    // scalar.
+    // The answer for the row of the key, which is at this place and holds no scalar.
     fn other(&mut self, key: &[u8], at: u32) -> Answer
         requires short { length key.now < 2 ^ 32 }
         requires stand { StandsForCache self.old }

@@ -21,7 +21,7 @@ pub struct ToldCounts {
     pub inserts: u64,
     /// How often all rows had to go, since the cache was cleared.
     pub expunges: u64,
-    /// The rows that are there, those whose time is over too.
+    /// The rows, expired ones too.
     pub entries: u64,
     /// The words of the blocks of these rows.
     pub row_words: u64,

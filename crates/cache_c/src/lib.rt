@@ -42,7 +42,7 @@ use shared::find_shared;
 pub use shared::{Found, View};
 use std::alloc::Global;
 
-/// How many bytes a cache takes beside its words. It is aligned as 16 bytes at most.
+/// The size of a cache in bytes, without its words. Its alignment is at most 16 bytes.
 #[unsafe(no_mangle)]
 pub extern "C" fn cache_size() -> usize
     ensures size { result ≡ size (layout the_row) }
@@ -51,7 +51,8 @@ pub extern "C" fn cache_size() -> usize
     std::mem::size_of::<Cache>()
 }
 
-/// Makes an empty cache of this shape in the room at `at`; else the number says why it did not.
+/// Makes an empty cache of this shape in the memory at `at`, and returns `MADE`; or returns the
+/// number of the reason why there is none.
 #[unsafe(no_mangle)]
 pub unsafe extern "C" fn cache_new_unchecked(alloc: Global, shape: &Shape, at: *mut u8) -> u32
     requires* { sem 𝓛 (room at) }
@@ -74,7 +75,7 @@ pub extern "C" fn cache_hash_unchecked(key: &[u8]) -> u64
     hash_of(key)
 }
 
-/// Asks the cache at `at` for one event. The request has the hash of its key.
+/// Asks the cache at `at` for one event. The request contains the hash of its key.
 #[unsafe(no_mangle)]
 pub unsafe extern "C" fn cache_ask_unchecked(
     at: *mut u8,
@@ -89,8 +90,8 @@ pub unsafe extern "C" fn cache_ask_unchecked(
     (&mut *at.cast::<Cache>()).ask(ask, key, bytes)
 }
 
-/// Fills the `len` bytes at `out` with those that stand in the cache at `at` from a place on; false
-/// where there are not so many words.
+/// Copies `len` bytes from the word at `place` of the cache at `at` to `out`. Returns false, and
+/// copies nothing, if they would run past the last word.
 #[unsafe(no_mangle)]
 pub unsafe extern "C" fn cache_copy_unchecked(
     at: *mut u8,
@@ -105,8 +106,8 @@ pub unsafe extern "C" fn cache_copy_unchecked(
     (&mut *at.cast::<Cache>()).copy(place, std::slice::from_raw_parts_mut(out, len))
 }
 
-/// The seat of the cache at `at` holds nothing from now on; false where there is none of this
-/// number. It is no event.
+/// Releases a seat of the cache at `at`, which holds nothing from now on. Returns false if there is
+/// no seat of this number. It is no event.
 #[unsafe(no_mangle)]
 pub unsafe extern "C" fn cache_let_go_unchecked(at: *mut u8, seat: u32) -> bool
     ghost cache: { Cache }
@@ -116,7 +117,7 @@ pub unsafe extern "C" fn cache_let_go_unchecked(at: *mut u8, seat: u32) -> bool
     (&mut *at.cast::<Cache>()).let_go(seat)
 }
 
-/// What the cache at `at` counts, and its words. Nothing changes.
+/// The counters of the cache at `at`, and its numbers of used and free words. Nothing changes.
 #[unsafe(no_mangle)]
 pub unsafe extern "C" fn cache_get_counts_unchecked(at: *mut u8) -> ToldCounts
     ghost cache: { Cache }
@@ -126,7 +127,7 @@ pub unsafe extern "C" fn cache_get_counts_unchecked(at: *mut u8) -> ToldCounts
     (&mut *at.cast::<Cache>()).counts()
 }
 
-/// The row that a look-up of the key at the moment `t` finds in the cache at `at`. Nothing changes.
+/// The row that a look-up of the key at the second `t` finds in the cache at `at`. Nothing changes.
 #[unsafe(no_mangle)]
 pub unsafe extern "C" fn cache_find_row_unchecked(at: *mut u8, key: &[u8], t: u64) -> ToldRow
     ghost cache: { Cache }
@@ -137,8 +138,8 @@ pub unsafe extern "C" fn cache_find_row_unchecked(at: *mut u8, key: &[u8], t: u6
 }
 
 /// Writes rows of a list of the cache at `at`, after the first `skip`, to the `room` places at
-/// `out`: those of a slot, or behind the slots the removed rows. It answers how many there were.
-/// Nothing changes.
+/// `out`: those of a slot, or of the list behind the slots, which has the removed rows. Returns how
+/// many it wrote. Nothing changes.
 #[unsafe(no_mangle)]
 pub unsafe extern "C" fn cache_list_rows_unchecked(
     at: *mut u8,
@@ -155,7 +156,7 @@ pub unsafe extern "C" fn cache_list_rows_unchecked(
 }
 
 /// Writes the gaps of the cache at `at` from a place on, by rising place, to the `room` places at
-/// `out`. It answers how many there were. Nothing changes.
+/// `out`. Returns how many it wrote. Nothing changes.
 #[unsafe(no_mangle)]
 pub unsafe extern "C" fn cache_list_gaps_unchecked(
     at: *mut u8,
@@ -170,7 +171,7 @@ pub unsafe extern "C" fn cache_list_gaps_unchecked(
     (&mut *at.cast::<Cache>()).list_gaps(from, std::slice::from_raw_parts_mut(out, room))
 }
 
-/// What a look-up needs to know of the cache at `at` beside its words. Nothing changes.
+/// What a shared look-up reads of the cache at `at` in addition to its words. Nothing changes.
 #[unsafe(no_mangle)]
 pub unsafe extern "C" fn cache_get_view_unchecked(at: *mut u8) -> View
     ghost cache: { Cache }
@@ -180,9 +181,9 @@ pub unsafe extern "C" fn cache_get_view_unchecked(at: *mut u8) -> View
     (&mut *at.cast::<Cache>()).view()
 }
 
-/// Looks a key up that has this hash, at the moment `t`, in the words of a cache, of which `words`
+/// Looks up a key that has this hash, at the second `t`, in the words of a cache, of which `words`
 /// are the first and the others are 0. It writes nothing, so any number of callers may look up at
-/// once.
+/// the same time.
 #[unsafe(no_mangle)]
 pub extern "C" fn cache_find_shared_unchecked(
     view: &View,
@@ -199,8 +200,8 @@ pub extern "C" fn cache_find_shared_unchecked(
     find_shared(view, words, key, hash, t)
 }
 
-/// Counts look-ups of the moment `t` that `cache_find_shared` answered: those that found the rows
-/// at these places, and so many that found none. It answers true.
+/// Counts look-ups of the second `t` that `cache_find_shared` answered: those that found the rows
+/// at these places, and the number of `misses` that found none. Returns true.
 #[unsafe(no_mangle)]
 pub unsafe extern "C" fn cache_count_unchecked(
     at: *mut u8,

@@ -27,11 +27,11 @@ use value_image::{bytes_are_packed, string_len};
 #[repr(C)]
 #[derive(Clone, Copy)]
 pub struct ToldRow {
-    /// The place of its block; 0 where there is no row.
+    /// The place of its block; 0 if there is no row.
     pub place: u32,
     /// The list it stands in: its slot's, or behind the slots that of the removed rows.
     pub slot: u32,
-    /// Where the bytes of its key stand.
+    /// The place of its key's bytes.
     pub key_place: u32,
     /// How many bytes its key has.
     pub key_len: u32,
@@ -111,7 +111,7 @@ impl Cache {
         out.len() as u64
     }
 
-    // The place of the row that stands in a list after the first `skip`; 0 where there is none.
+    // The place of the row that is in a list after the first `skip`; 0 if there is none.
     fn skipped(&mut self, slot: u32, skip: u64) -> u32
         requires stand { StandsForCache self.old }
         ensures same { StandsUnchanged self.old self.new }
@@ -129,7 +129,7 @@ impl Cache {
         at
     }
 
-    // The place of the first row of a list; 0 where there is none.
+    // The place of the first row of a list; 0 if there is none.
     fn first(&mut self, slot: u32) -> u32
         requires stand { StandsForCache self.old }
         ensures same { StandsUnchanged self.old self.new }
@@ -156,7 +156,7 @@ impl Cache {
         self.core.slots().after(&mut self.words.late, at)
     }
 
-    // What is told of the row at a place, which stands in this list.
+    // The row at a place, which is in this list.
     fn row(&mut self, slot: u32, at: u32) -> ToldRow
         requires stand { StandsForCache self.old }
         requires there { has_place at (listed (entries self.old.core.slots)) ≡ true }

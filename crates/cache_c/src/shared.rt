@@ -1,4 +1,4 @@
-//! Look-ups by any number of callers at once, which are counted later.
+//! Look-ups by any number of callers at the same time, which are counted later.
 
 ghost use Rattle.std.specs.Prelude.{◌≡◌, ◌<◌, ◌^◌, length};
 ghost use Rattle.php_graph.specs.Numbers.{hash_of};
@@ -15,26 +15,26 @@ use entry_slots::Finder;
 use late_words::LentWords;
 use seg_words::{HEAD_WORDS, WordsIn, words_in};
 
-/// What a look-up needs to know beside the words. It is good until the next call that may change
-/// the cache.
+/// What a shared look-up reads in addition to the words. It is valid until the next call that may
+/// change the cache.
 #[repr(C)]
 #[derive(Clone, Copy)]
 pub struct View {
-    /// How many slots there are.
+    /// The number of slots.
     pub slots: u32,
-    /// How many rows there are.
+    /// The number of rows.
     pub rows: u32,
-    /// How many words there are.
+    /// The number of words.
     pub len: u32,
 }
 
-/// What a look-up answers that is counted later.
+/// What a shared look-up returns.
 #[repr(C)]
 #[derive(Clone, Copy)]
 pub struct Found {
-    /// Which answer, as of an `Answer`; so are the next three.
+    /// The kind of answer. This field and the next three are those of an `Answer`.
     pub kind: u32,
-    /// Where the bytes of a string stand.
+    /// The place of a string's bytes.
     pub place: u32,
     /// The number of an integer; 0 or 1 of a truth value.
     pub number: i64,
@@ -57,8 +57,8 @@ fn with_row(answer: Answer, row: u32) -> Found
     }
 }
 
-/// Looks a key up that has this hash, at the moment `t`, in seconds, in the words of a cache.
-/// Nothing is counted.
+/// Looks up a key that has this hash, at the second `t`, in the words of a cache. Nothing is
+/// counted.
 pub(crate) fn find_shared(view: &View, words: &[u64], key: &[u8], hash: u64, t: u64) -> Found
     requires shared { (cache : Cache) × IsShared cache view.now words.now }
     requires hash { hash ≡ hash_of key.now }
@@ -82,7 +82,7 @@ pub(crate) fn find_shared(view: &View, words: &[u64], key: &[u8], hash: u64, t: 
 }
 
 impl Cache {
-    /// What a look-up needs to know beside the words.
+    /// What a shared look-up reads in addition to the words.
     pub(crate) fn view(&mut self) -> View
         requires stand { StandsForCache self.old }
         ensures same { StandsUnchanged self.old self.new }
@@ -96,8 +96,8 @@ impl Cache {
         }
     }
 
-    /// Counts look-ups of the moment `t`, in seconds, that were answered before: those that found
-    /// the rows at these places, and so many that found none.
+    /// Counts shared look-ups of the second `t`: those that found the rows at these places, and the
+    /// number of `misses` that found none. Returns true.
     pub(crate) fn count_shared(&mut self, places: &[u32], misses: u64, t: u64) -> bool
         requires may { MayCount self.old places.now }
         ensures left { LeavesHeld self.old self.new }
