@@ -35,7 +35,7 @@ void apcu_kept_stop(void)
 {
 }
 
-apcu_kept *apcu_kept_find(zend_string *key, uint32_t place, uint64_t len)
+apcu_kept *apcu_kept_find(zend_string *key, const uint8_t tail[APCU_TAIL])
 {
 	return NULL;
 }
@@ -546,17 +546,11 @@ void apcu_kept_stop(void)
 	memset(seen, 0, sizeof seen);
 }
 
-apcu_kept *apcu_kept_find(zend_string *key, uint32_t place, uint64_t len)
+apcu_kept *apcu_kept_find(zend_string *key, const uint8_t tail[APCU_TAIL])
 {
-	uint8_t tail[APCU_TAIL] = {0};
-
-	if (EXPECTED(all.count == 0) || !apcu_may_have_stamp(len)
-			|| !cache_copy(apcu_shm->cache, place + (uint32_t) (len / 8 - 1), tail, sizeof tail)) {
-		return NULL;
-	}
-
 	uint64_t stamp = apcu_stamp_of(tail);
-	apcu_kept *one = stamp != 0 ? find(key, zend_string_hash_val(key)) : NULL;
+	apcu_kept *one = stamp != 0 && all.count > 0 ? find(key, zend_string_hash_val(key)) : NULL;
+
 	return one && one->stamp == stamp ? one : NULL;
 }
 

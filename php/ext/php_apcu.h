@@ -140,9 +140,9 @@ void apcu_kept_end_request(void);
 /* When PHP stops, and no request has values any more. */
 void apcu_kept_stop(void);
 
-/* While the lock is held, after a look-up found a string of `len` bytes at this place: the kept value of these bytes,
- * or null. It takes no memory, and the value stays until the request ends. */
-apcu_kept *apcu_kept_find(zend_string *key, uint32_t place, uint64_t len);
+/* The kept value of the row of this key, or null, by the last bytes of the row's value. It may be called while the
+ * lock is held: it takes no memory. The value stays until the request ends. */
+apcu_kept *apcu_kept_find(zend_string *key, const uint8_t tail[APCU_TAIL]);
 
 /* Outside of the lock: returns a kept value. */
 void apcu_kept_use(zval *out, apcu_kept *kept);

@@ -316,6 +316,18 @@ uint64_t apcu_shm_stamp(void)
 	return atomic_fetch_add_explicit(&apcu_shm->stamps, 1, memory_order_relaxed) + 1;
 }
 
+/* While the lock is held: the kept value of a look-up's answer, or null. */
+static apcu_kept *kept_of(zend_string *key, const cache_answer *answer)
+{
+	uint8_t tail[APCU_TAIL] = {0};
+
+	if (EXPECTED(APCU_G(kept_size) <= 0) || answer->kind != CACHE_STR || !apcu_may_have_stamp(answer->len)
+			|| !cache_copy(apcu_shm->cache, answer->place + (uint32_t) (answer->len / 8 - 1), tail, sizeof tail)) {
+		return NULL;
+	}
+	return apcu_kept_find(key, tail);
+}
+
 cache_answer apcu_look(zend_string *key, time_t t, apcu_held *held, apcu_kept **kept)
 {
 	seats *all = &apcu_shm->seats;
@@ -329,7 +341,7 @@ cache_answer apcu_look(zend_string *key, time_t t, apcu_held *held, apcu_kept **
 	cache_answer answer = apcu_ask(&request, key, "", 0);
 
 	held->bytes = NULL;
-	*kept = answer.kind == CACHE_STR && APCU_G(kept_size) > 0 ? apcu_kept_find(key, answer.place, answer.len) : NULL;
+	*kept = kept_of(key, &answer);
 	if (request.kind != CACHE_HOLD || answer.kind != CACHE_STR || answer.len < APCU_HELD_FROM) {
 		return answer;
 	}
