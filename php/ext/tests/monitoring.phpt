@@ -73,8 +73,8 @@ end_of($id);
 var_dump(apcu_cache_info(true)['longest_entry_wait'] > 0.1);
 ?>
 --EXPECT--
-remakes seats_taken longest_wait longest_entry_wait
-cache_list deleted_list slot_distribution remakes seats_taken longest_wait longest_entry_wait
+remakes seats_taken longest_wait longest_entry_wait kept_entries kept_size kept_hits
+cache_list deleted_list slot_distribution remakes seats_taken longest_wait longest_entry_wait kept_entries kept_size kept_hits
 int(0)
 int(0)
 bool(true)
