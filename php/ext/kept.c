@@ -59,10 +59,10 @@ apcu_kept_counts apcu_kept_count(void)
 #define MOST_LEVELS 512
 
 /* Chains of the table; its entries are found by the hash of their key. */
-#define CHAINS 1024
+#define CHAINS 4096
 
 /* How many stamps are remembered. Stamps are consecutive numbers, so those of one time are remembered together. */
-#define SEEN 2048
+#define SEEN 4096
 
 struct apcu_kept {
 	apcu_kept *next;          /* in its chain, or of those that were evicted */
