@@ -274,8 +274,13 @@ final class Calls
     private function part(int $depth = 0): mixed
     {
         $kind = $depth > 3 ? 0 : mt_rand(0, 29);
+        $is_default = ini_get('apc.serializer') === 'default';
         // igbinary does not come back from an array that holds itself, and throws twice what can't be stored.
         if (($kind === 18 || $kind > 27) && ini_get('apc.serializer') === 'igbinary') {
+            $kind = 0;
+        }
+        // PHP's serializer writes null in an array that holds itself, and APCu's default one copies it.
+        if ($kind === 18 && $is_default) {
             $kind = 0;
         }
         if ($kind < 12) {
@@ -313,8 +318,8 @@ final class Calls
             }
             return $object;
         }
-        // APCu's default serializer refuses an array with a resource; PHP's writes 0 in its place.
-        $resource = ini_get('apc.serializer') === 'default' ? null : STDIN;
+        // APCu's default serializer refuses an array with a resource; PHP's writes 0 instead.
+        $resource = $is_default ? null : STDIN;
         $value = match ($kind) {
             22 => new Hooked($this->part($depth + 1)),
             23 => pick([Pure::One, Pure::Two, Suit::Hearts, Suit::Spades]),
@@ -359,7 +364,8 @@ final class Calls
     {
         $word = pick(['apcu_store', 'apcu_store', 'apcu_add']);
         Notes::add($word);
-        if (mt_rand(0, 3) > 0) {
+        // While an exception is on its way, APCu's default serializer still copies the arrays of a list, and PHP's does not.
+        if (mt_rand(0, 3) > 0 || ini_get('apc.serializer') === 'default') {
             return $word($this->key(), $this->value(), $this->ttl());
         }
         $values = [];
