@@ -1,8 +1,8 @@
 #!/usr/bin/env bash
 # Writes the coverage and the lists of CLAIMS.md, between its two marks, from the rows of claims.txt and the lines
 # 'clause:' of the edits. It writes nothing and ends with status 1 if a row names a clause or a test that is not there, or
-# if an edit names no clause, or one that is in no row. With --check it writes nothing in any case, and ends with status 1
-# if CLAIMS.md is not what it would write.
+# if an edit names no clause, or one that is in no row, or if crates.txt has another number of functions that may wait than
+# there are. With --check it writes nothing in any case, and ends with status 1 if CLAIMS.md is not what it would write.
 # Usage: docs/claims.sh [--check]
 set -eu
 cd "$(dirname "$0")/.."
@@ -18,6 +18,8 @@ PAGE = "docs/CLAIMS.md"
 OWNER = re.compile(r"^( *)(?:pub(?:\([a-z ]+\))? )?(?:unsafe )?(impl|trait)\b(.*)")
 FUNCTION = re.compile(r'^( *)(?:pub(?:\([a-z ]+\))? )?(?:const )?(?:unsafe )?(?:extern "C" )?fn (\w+)')
 CLAUSE = re.compile(r"^ *(?:ensures|requires)\*? (?:(\w+) )?\{")
+# A function's name, and its text up to its first clause or its body.
+HEAD = re.compile(r"^ *(?:pub(?:\([a-z ]+\))? )?fn (\w+)(.*?)(?:^ *(?:requires|ensures|ghost)\b|\{$)", re.M | re.S)
 DEFINED = re.compile(r"^(?=(?:\w+ )*(?:abbrev|record|data) )", re.M)
 faults = []
 # How many edits of a row are named.
@@ -236,7 +238,26 @@ def of_statements():
     return found
 
 
-def coverage(tables, edits):
+def that_wait():
+    """The functions with the bound `Wait`, by their crates, as crates.txt counts them, and how many they are. Of the main
+    crate of a program it is `main`, which has every handle."""
+    lines, many = [], 0
+    for line in open("crates.txt", encoding="utf-8"):
+        name = line.split(":")[0].split("#")[0].strip().partition(" ")[0]
+        for count in re.findall(r"\bmay_wait=(\d+)", line.split(":")[0]):
+            heads = [head for path in sorted(glob.glob(f"crates/{name}/src/**/*.rt", recursive=True))
+                     for head in HEAD.findall(open(path, encoding="utf-8").read())]
+            named = [function for function, head in heads
+                     if re.search(r"\bWait\b", head) or function == "main" and "HostRuntime" in head]
+            if len(named) != int(count):
+                faults.append(f"crates.txt: {name} has {count} functions that may wait, and {len(named)} have the bound Wait")
+            each = ", ".join(f"`{function}`" for function in sorted(named))
+            lines.append(f"  - `{name}` ({count}): {each}")
+            many += int(count)
+    return "\n".join(lines), many
+
+
+def coverage(tables, edits, waiting):
     rows = [row for name, (_, table) in tables.items() if name != "-" for row in table]
     kinds = [edits_for(row, edits) for row in rows]
     own = sum(bool(own) for own, _ in kinds)
@@ -244,16 +265,15 @@ def coverage(tables, edits):
     none = [row for row, kind in zip(rows, kinds) if not any(kind)]
     untested = [row for row in rows if not row["test"]]
     bare = sum(not row["test"] for row in none)
-    waits = [(line.split(":")[0].split()[0], int(count)) for line in open("crates.txt", encoding="utf-8")
-             for count in re.findall(r"\bmay_wait=(\d+)", line)]
+    waits, wait = waiting
     many = len(glob.glob("crates/*/more-edits/*.edit"))
     return f"""## Coverage
 
 - Rows: {len(rows)}. With an edit of their own {own}, with one that is alike alone {alike}, with none {len(none)}.
 - Rows without a test: {len(untested)}, of which {bare} have no edit either.
 - Edits: {many}. Of these {len(of_statements())} change a clause of a law, a definition or a constant, and no body.
-- Functions that may wait: {sum(count for _, count in waits)}, in \
-{", ".join(f"`{name}` ({count})" for name, count in waits)}. All others return.
+- Functions that may wait for a lock or a thread, and so have the bound `Wait`: {wait}. All others return.
+{waits}
 """
 
 
@@ -261,10 +281,11 @@ def main(words):
     source = Source()
     tables, edits = rows_of(source), edits_of(source)
     check(tables, edits, source)
+    waiting = that_wait()
     if faults:
         sys.exit("\n".join(dict.fromkeys(faults)))
     page = open(PAGE, encoding="utf-8").read()
-    text = "\n\n".join([coverage(tables, edits).rstrip()] + [
+    text = "\n\n".join([coverage(tables, edits, waiting).rstrip()] + [
         f"## {name}\n\n{about}{''.join(line_of(row, edits, source) for row in rows)}".rstrip()
         for name, (about, rows) in tables.items() if name != "-"])
     before, begin, rest = page.partition(BEGIN)

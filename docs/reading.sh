@@ -30,12 +30,12 @@ SPINE = [
 # The library for C: its call, and what is read of it in an hour, down to what the list above has.
 LIBRARY, CALL = "crates/cache_c/src/lib.rt", "cache_ask_unchecked"
 LIBRARY_SPINE = [
-    ("cache_c/Memory", "what is at a pointer, before a call and after it", ["lies", "stands_at", "has_asked"]),
+    ("cache_c/Memory", "what is at a pointer, before a call and after it", ["lies", "stands_at", "asks_at", "has_asked"]),
     ("cache_c/Asked", "the request that the numbers of C ask for, and what an answer says",
         ["scalar_value", "value_of", "store_if_value", "request_of", "is_short", "asked_for", "IsValueBy", "IsToldBy",
-         "IsDone", "IsNoRequest", "IsAnswered", "TakesSeat", "KeepsSeats"]),
+         "IsDone", "IsNoRequest", "MayAsk", "IsAnswered", "TakesSeat", "KeepsSeats"]),
     ("cache_c/Standing", "when words are a cache, and which string a seat holds",
-        ["cache_words", "seats_of", "StandsForCache", "HasDone", "StandAt", "IsHeld"]),
+        ["cache_words", "words_memory", "seats_of", "StandsForCache", "HasDone", "StandAt", "IsHeld"]),
     ("cache_c/Seats", "the image that a seat holds", None),
     ("cache_core/CoreCache", "the cache that the words of a segment are", None),
     ("cache_core/Events", "what an event answers and leaves", ["IsBy", "IsStep", "Does"]),
@@ -458,7 +458,8 @@ The kit's `ANTT.md` and `CONTRACTS.md` have the rest; [GLOSSARY.md](GLOSSARY.md)
 
 `{CALL}` is the call by which C asks for an event. Its clauses rest on {reached:,} lines in {few(reached_files, "file")}: \
 the {library_total} of this table first, and then the files of *An hour* from `apcu_model/History` on. The other exports are \
-read alike: a clause of `crates/cache_c/src/lib.rt`, and what it names of `cache_c/Memory`.
+read alike: a clause of `crates/cache_c/src/lib.rt`, and what it names of `cache_c/Memory`; of a shared look-up \
+(`cache_find_shared_unchecked`), of `cache_c/Shared`.
 
 - A clause with a star is of separation logic: `sem 𝓛 F` says that the formula `F` holds of the memory that the call owns. \
 `fsep F G`: `F` of one part of it and `G` of another. `fex A (λ x. F)`: there is an `x` in `A` with `F`. `ftrue` holds of any \
@@ -472,7 +473,8 @@ memory for one. `the_row` is the type of the struct that its import names.
 {library_rows}
 ## By need
 
-A number is that of the lines reached beside the hour's. A star: `{MAIN}` does not reach the file.
+A number is that of the lines reached without the hour's. A star: `{MAIN}` does not reach the file. What serves generated \
+runs, verdicts or maps alone is partly in files of other subjects, so the numbers of the first paragraph are larger.
 
 {subjects(reading, main, done)}## Types
 
