@@ -14,7 +14,7 @@ set -eu -o pipefail
 here=$(cd "$(dirname "${BASH_SOURCE[0]}")" && pwd)
 case "$# ${1:-}" in
     '0 ' | '1 --quick') ;;
-    '1 -h' | '1 --help') sed -n '2,/^set/{/^#/s/^# \{0,1\}//p}' "$0" && exit ;;
+    '1 -h' | '1 --help') sed -n '2,/^set/{/SPDX/d;/^#/s/^# \{0,1\}//p}' "$0" && exit ;;
     *) echo 'usage: capi/run.sh [--quick]' >&2 && exit 1 ;;
 esac
 scratch=$(mktemp -d)

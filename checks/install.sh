@@ -13,7 +13,7 @@
 set -u -o pipefail
 case "$# ${1:-}" in
     '0 ') ;;
-    '1 -h' | '1 --help') sed -n '2,/^# Functions/{/^# Functions/d;/^#/s/^# \{0,1\}//p}' "$0" && exit ;;
+    '1 -h' | '1 --help') sed -n '2,/^# Functions/{/^# Functions/d;/SPDX/d;/^#/s/^# \{0,1\}//p}' "$0" && exit ;;
     *) echo 'usage: checks/install.sh' >&2 && exit 1 ;;
 esac
 top=$(cd "$(dirname "${BASH_SOURCE[0]}")/.." && pwd)

@@ -9,7 +9,7 @@
 set -eu -o pipefail
 case "$# ${1:-}" in
     '0 ') ;;
-    '1 -h' | '1 --help') sed -n '2,/^set/{/^#/s/^# \{0,1\}//p}' "$0" && exit ;;
+    '1 -h' | '1 --help') sed -n '2,/^set/{/SPDX/d;/^#/s/^# \{0,1\}//p}' "$0" && exit ;;
     *) echo 'usage: checks/package.sh' >&2 && exit 1 ;;
 esac
 top=$(cd "$(dirname "${BASH_SOURCE[0]}")/.." && pwd)
@@ -107,8 +107,8 @@ if php -m 2>&1 | grep -qi apcu; then echo 'PHP still has apcu'; exit 1; fi
 state 'purged'
 END
 # What the overlay writes is in memory.
-# shellcheck disable=SC2016
 mkdir "$scratch/overlay"
+# shellcheck disable=SC2016
 unshare -m bash -eu -c '
     mount --make-rprivate /
     mount -t tmpfs -o size=1G none "$1"

@@ -13,7 +13,7 @@ php_config=${PHP_CONFIG:-php-config}
 
 case ${1:-} in
     '') ;;
-    -h | --help) sed -n '2,/^set/{/^#/s/^# \{0,1\}//p}' "$0"; exit ;;
+    -h | --help) sed -n '2,/^set/{/SPDX/d;/^#/s/^# \{0,1\}//p}' "$0"; exit ;;
     *) echo 'usage: php/ext/build.sh' >&2; exit 1 ;;
 esac
 for tool in "$phpize" "$php_config"; do

@@ -11,7 +11,7 @@ ext=$(cd "$(dirname "$0")" && pwd)
 top=$(cd "$ext/../.." && pwd)
 
 case ${1:-} in
-    -h | --help) sed -n '2,/^set/{/^#/s/^# \{0,1\}//p}' "$0"; exit ;;
+    -h | --help) sed -n '2,/^set/{/SPDX/d;/^#/s/^# \{0,1\}//p}' "$0"; exit ;;
 esac
 [ $# = 1 ] || { echo 'usage: php/ext/stage.sh FOLDER' >&2; exit 1; }
 mkdir -p "$1"
