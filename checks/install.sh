@@ -67,7 +67,7 @@ pecl_package() {
     php/ext/stage.sh "$scratch/stage"
     cd "$scratch/stage"
     pecl package
-    tar -tzf yilumbaso-*.tgz | grep -q 'capi/engine/cache_c.aarch64.s'
+    tar -tzf yilumbaso-*.tgz | grep 'capi/engine/cache_c.aarch64.s'
     mkdir "$scratch/tarball" && tar -C "$scratch/tarball" -xzf yilumbaso-*.tgz
     cd "$scratch"/tarball/yilumbaso-*
     phpize && ./configure && make -j2 && [ -f modules/apcu.so ]
@@ -103,15 +103,17 @@ END
 }
 by_line() {
     write_c mine.c
-    eval "$(shown capi/README.md '^cc -Icapi mine') -o $scratch/mine" && [ "$("$scratch/mine")" = "6 $(version)" ]
+    eval "$(shown capi/README.md 'cc -Icapi mine') -o $scratch/mine" && [ "$("$scratch/mine")" = "6 $(version)" ]
 }
 version() { sed -n 's/^#define CACHE_C_VERSION "\(.*\)"$/\1/p' capi/cache_c.h; }
 by_pkg_config() {
+    local version
+    version=$(version)
     make -C capi install PREFIX="$scratch/prefix"
     export PKG_CONFIG_PATH=$scratch/prefix/lib/pkgconfig
     mkdir "$scratch/other" && write_c "$scratch/other/mine.c"
-    eval "cd $scratch/other && $(shown capi/README.md 'pkg-config --cflags') -o mine" && [ "$("$scratch/other/mine")" = "6 $(version)" ]
-    [ "$(pkg-config --modversion cache_c)" = "$(version)" ]
+    eval "cd $scratch/other && $(shown capi/README.md 'pkg-config --cflags') -o mine" && [ "$("$scratch/other/mine")" = "6 $version" ]
+    [ "$(pkg-config --modversion cache_c)" = "$version" ]
 }
 aarch64() {
     local status=0

@@ -7,7 +7,7 @@
  *
  * The verdict on what was compiled:
  *
- *   logic=proved functions=60 axioms=3 target=x86_64-unknown-linux-gnu cpu=x86-64-v2 sum=dac8208d650f15bf native=nat,char,string logic-built=trusted libraries-built=trusted statements=trusted
+ *   logic=proved functions=60 axioms=3 target=x86_64-unknown-linux-gnu sum=dac8208d650f15bf native=nat,char,string logic-built=trusted libraries-built=trusted statements=trusted
  *   rattle-kit-13f logic dac8208d650f15bf
  *
  * The crates, each with the SHA-256 of its sources:
@@ -198,6 +198,13 @@
 .Lfunc_end3:
 	.size	"std_alloc::vec::Vec::grow_amortized::<#222e7a5cd740923c>", .Lfunc_end3-"std_alloc::vec::Vec::grow_amortized::<#222e7a5cd740923c>"
 
+	.section	.rodata.cst16,"aM",@progbits,16
+	.p2align	4, 0x0
+.LCPI4_0:
+	.long	2147483648
+	.long	2147483648
+	.long	2147483648
+	.long	2147483648
 	.section	".text.max_tree::row::MaxRow::change","ax",@progbits
 	.p2align	4
 	.type	"max_tree::row::MaxRow::change",@function
@@ -208,130 +215,234 @@
 	pushq	%r13
 	pushq	%r12
 	pushq	%rbx
-	movq	(%rdi), %r12
+	movq	(%rdi), %rbp
 	movq	32(%rdi), %rax
 	testq	%rax, %rax
-	movl	%edx, -8(%rsp)
-	movl	%ecx, -4(%rsp)
+	movl	%edx, -16(%rsp)
+	movl	%ecx, -12(%rsp)
+	movq	%rdi, -8(%rsp)
 	je	.LBB4_1
 	movq	24(%rdi), %r9
-	movl	%ecx, %r15d
-	movq	%rsi, %rbx
+	movl	%ecx, %r13d
+	movl	%edx, %ebx
+	movq	%rsi, %rdx
 	movq	%rsi, %r8
 	.p2align	4
 .LBB4_10:
-	leaq	(%r12,%r9,4), %r10
-	movl	%r15d, (%r12,%rbx,4)
+	leaq	(,%r9,4), %rdi
+	addq	%rbp, %rdi
+	movl	%r13d, (%rbp,%rdx,4)
 	shrq	$5, %r8
-	movl	(%r10,%r8,4), %r11d
-	cmpl	%r15d, %r11d
+	movl	(%rdi,%r8,4), %r11d
+	cmpl	%r13d, %r11d
 	jbe	.LBB4_21
-	cmpl	%r11d, %edx
+	cmpl	%r11d, %ebx
 	jb	.LBB4_3
-	leaq	(,%rbx,4), %rbp
-	movabsq	$9223372036854775776, %rdx
-	andq	%rbx, %rdx
+	leaq	(,%rdx,4), %r12
+	movabsq	$9223372036854775776, %r10
+	andq	%rdx, %r10
 	movq	%r9, %r14
-	subq	%rdx, %r14
-	andq	$-128, %rbp
+	subq	%r10, %r14
+	andq	$-128, %r12
 	leaq	(%r12,%rbp), %rbx
 	cmpq	$32, %r14
 	jb	.LBB4_14
-	movdqu	80(%rbx), %xmm0
-	movdqu	112(%rbx), %xmm1
-	movdqu	64(%rbx), %xmm2
 	movdqu	96(%rbx), %xmm3
-	movdqu	(%rbx), %xmm4
-	pmaxud	%xmm2, %xmm4
+	movdqu	64(%rbx), %xmm5
+	movdqu	112(%rbx), %xmm7
+	movdqu	(%rbx), %xmm6
 	movdqu	16(%rbx), %xmm2
-	pmaxud	%xmm0, %xmm2
-	movdqu	32(%rbx), %xmm0
-	pmaxud	%xmm3, %xmm0
-	pmaxud	%xmm4, %xmm0
-	movdqu	48(%rbx), %xmm3
-	pmaxud	%xmm1, %xmm3
-	pmaxud	%xmm2, %xmm3
-	pmaxud	%xmm0, %xmm3
-	pshufd	$238, %xmm3, %xmm0
-	pmaxud	%xmm3, %xmm0
-	pshufd	$85, %xmm0, %xmm1
-	pmaxud	%xmm0, %xmm1
-	movd	%xmm1, %r15d
+	movdqu	32(%rbx), %xmm4
+	movdqu	48(%rbx), %xmm8
+	movdqu	80(%rbx), %xmm9
+	movdqa	.LCPI4_0(%rip), %xmm0
+	movdqa	%xmm9, %xmm10
+	pxor	%xmm0, %xmm10
+	movdqa	%xmm2, %xmm1
+	pxor	%xmm0, %xmm1
+	pcmpgtd	%xmm10, %xmm1
+	pand	%xmm1, %xmm2
+	pandn	%xmm9, %xmm1
+	por	%xmm2, %xmm1
+	movdqa	%xmm7, %xmm9
+	pxor	%xmm0, %xmm9
+	movdqa	%xmm8, %xmm2
+	pxor	%xmm0, %xmm2
+	pcmpgtd	%xmm9, %xmm2
+	pand	%xmm2, %xmm8
+	pandn	%xmm7, %xmm2
+	por	%xmm8, %xmm2
+	movdqa	%xmm5, %xmm8
+	pxor	%xmm0, %xmm8
+	movdqa	%xmm6, %xmm7
+	pxor	%xmm0, %xmm7
+	pcmpgtd	%xmm8, %xmm7
+	pand	%xmm7, %xmm6
+	pandn	%xmm5, %xmm7
+	por	%xmm6, %xmm7
+	movdqa	%xmm3, %xmm5
+	pxor	%xmm0, %xmm5
+	movdqa	%xmm4, %xmm6
+	pxor	%xmm0, %xmm6
+	pcmpgtd	%xmm5, %xmm6
+	pand	%xmm6, %xmm4
+	pandn	%xmm3, %xmm6
+	por	%xmm4, %xmm6
+	movdqa	%xmm6, %xmm4
+	pxor	%xmm0, %xmm4
+	movdqa	%xmm7, %xmm3
+	pxor	%xmm0, %xmm3
+	pcmpgtd	%xmm4, %xmm3
+	pand	%xmm3, %xmm7
+	pandn	%xmm6, %xmm3
+	por	%xmm7, %xmm3
+	movdqa	%xmm2, %xmm4
+	pxor	%xmm0, %xmm4
+	movdqa	%xmm1, %xmm5
+	pxor	%xmm0, %xmm5
+	pcmpgtd	%xmm4, %xmm5
+	pand	%xmm5, %xmm1
+	pandn	%xmm2, %xmm5
+	por	%xmm1, %xmm5
+	movdqa	%xmm5, %xmm1
+	pxor	%xmm0, %xmm1
+	movdqa	%xmm3, %xmm2
+	pxor	%xmm0, %xmm2
+	pcmpgtd	%xmm1, %xmm2
+	pand	%xmm2, %xmm3
+	pandn	%xmm5, %xmm2
+	por	%xmm3, %xmm2
+	pshufd	$238, %xmm2, %xmm1
+	movdqa	%xmm2, %xmm3
+	pxor	%xmm0, %xmm3
+	movdqa	%xmm1, %xmm4
+	pxor	%xmm0, %xmm4
+	pcmpgtd	%xmm4, %xmm3
+	pand	%xmm3, %xmm2
+	pandn	%xmm1, %xmm3
+	por	%xmm2, %xmm3
+	pshufd	$85, %xmm3, %xmm1
+	movdqa	%xmm3, %xmm2
+	pxor	%xmm0, %xmm2
+	pxor	%xmm1, %xmm0
+	pcmpgtd	%xmm0, %xmm2
+	pand	%xmm2, %xmm3
+	pandn	%xmm1, %xmm2
+	por	%xmm3, %xmm2
+	movd	%xmm2, %r13d
 	jmp	.LBB4_21
 	.p2align	4
 .LBB4_14:
-	xorl	%r15d, %r15d
-	cmpq	%rdx, %r9
+	xorl	%r13d, %r13d
+	cmpq	%r10, %r9
 	je	.LBB4_21
 	cmpq	$8, %r14
 	jae	.LBB4_17
-	xorl	%r15d, %r15d
 	xorl	%r13d, %r13d
+	xorl	%r15d, %r15d
 	jmp	.LBB4_20
 .LBB4_17:
-	movl	%r9d, %ecx
-	andl	$7, %ecx
-	movq	%r14, %r13
-	subq	%rcx, %r13
-	movq	%r9, %r15
-	andq	$-8, %r15
+	movl	%r9d, %edx
+	andl	$7, %edx
+	movq	%r14, %r15
 	subq	%rdx, %r15
-	leaq	(%r12,%rbp), %rdx
-	addq	$16, %rdx
-	pxor	%xmm0, %xmm0
-	xorl	%r12d, %r12d
+	movq	%r9, %r13
+	andq	$-8, %r13
+	subq	%r10, %r13
+	addq	%r12, %rbp
+	addq	$16, %rbp
 	pxor	%xmm1, %xmm1
+	xorl	%r12d, %r12d
+	pxor	%xmm2, %xmm2
 	.p2align	4
 .LBB4_18:
-	movdqu	-16(%rdx,%r12,4), %xmm2
-	pmaxud	%xmm2, %xmm0
-	movdqu	(%rdx,%r12,4), %xmm2
-	pmaxud	%xmm2, %xmm1
+	movdqu	-16(%rbp,%r12,4), %xmm3
+	movdqu	(%rbp,%r12,4), %xmm4
+	movdqa	.LCPI4_0(%rip), %xmm0
+	movdqa	%xmm1, %xmm5
+	pxor	%xmm0, %xmm5
+	movdqa	%xmm3, %xmm6
+	pxor	%xmm0, %xmm6
+	pcmpgtd	%xmm5, %xmm6
+	pand	%xmm6, %xmm3
+	pandn	%xmm1, %xmm6
+	movdqa	%xmm6, %xmm1
+	por	%xmm3, %xmm1
+	movdqa	%xmm2, %xmm3
+	pxor	%xmm0, %xmm3
+	movdqa	%xmm4, %xmm5
+	pxor	%xmm0, %xmm5
+	pcmpgtd	%xmm3, %xmm5
+	pand	%xmm5, %xmm4
+	pandn	%xmm2, %xmm5
+	movdqa	%xmm5, %xmm2
+	por	%xmm4, %xmm2
 	addq	$8, %r12
-	cmpq	%r12, %r15
+	cmpq	%r12, %r13
 	jne	.LBB4_18
-	pmaxud	%xmm1, %xmm0
-	pshufd	$238, %xmm0, %xmm1
-	pmaxud	%xmm0, %xmm1
-	pshufd	$85, %xmm1, %xmm0
-	pmaxud	%xmm1, %xmm0
-	movd	%xmm0, %r15d
-	testq	%rcx, %rcx
+	movdqa	%xmm2, %xmm3
+	pxor	%xmm0, %xmm3
+	movdqa	%xmm1, %xmm4
+	pxor	%xmm0, %xmm4
+	pcmpgtd	%xmm3, %xmm4
+	pand	%xmm4, %xmm1
+	pandn	%xmm2, %xmm4
+	por	%xmm1, %xmm4
+	pshufd	$238, %xmm4, %xmm1
+	movdqa	%xmm4, %xmm2
+	pxor	%xmm0, %xmm2
+	movdqa	%xmm1, %xmm3
+	pxor	%xmm0, %xmm3
+	pcmpgtd	%xmm3, %xmm2
+	pand	%xmm2, %xmm4
+	pandn	%xmm1, %xmm2
+	por	%xmm4, %xmm2
+	pshufd	$85, %xmm2, %xmm1
+	movdqa	%xmm2, %xmm3
+	pxor	%xmm0, %xmm3
+	pxor	%xmm1, %xmm0
+	pcmpgtd	%xmm0, %xmm3
+	pand	%xmm3, %xmm2
+	pandn	%xmm1, %xmm3
+	por	%xmm2, %xmm3
+	movd	%xmm3, %r13d
+	testq	%rdx, %rdx
 	je	.LBB4_21
 	.p2align	4
 .LBB4_20:
-	movl	(%rbx,%r13,4), %ecx
-	cmpl	%r15d, %ecx
-	cmoval	%ecx, %r15d
-	incq	%r13
-	cmpq	%r13, %r14
+	movl	(%rbx,%r15,4), %edx
+	cmpl	%r13d, %edx
+	cmoval	%edx, %r13d
+	incq	%r15
+	cmpq	%r15, %r14
 	jne	.LBB4_20
 	.p2align	4
 .LBB4_21:
-	cmpl	%r11d, %r15d
+	cmpl	%r11d, %r13d
 	je	.LBB4_3
 	addq	$31, %r9
 	shrq	$5, %r9
-	movl	%r11d, %edx
-	movq	%r8, %rbx
-	movq	%r10, %r12
+	movl	%r11d, %ebx
+	movq	%r8, %rdx
+	movq	%rdi, %rbp
 	decq	%rax
 	jne	.LBB4_10
 	jmp	.LBB4_2
 .LBB4_1:
-	movq	%r12, %r10
+	movq	%rbp, %rdi
 	movq	%rsi, %r8
-	movl	%ecx, %r15d
+	movl	%ecx, %r13d
 .LBB4_2:
-	movl	%r15d, (%r10,%r8,4)
+	movl	%r13d, (%rdi,%r8,4)
 .LBB4_3:
-	cmpl	$0, -4(%rsp)
+	cmpl	$0, -12(%rsp)
 	je	.LBB4_4
-	cmpl	$0, -8(%rsp)
+	cmpl	$0, -16(%rsp)
+	movq	-8(%rsp), %rdx
 	jne	.LBB4_28
-	movq	40(%rdi), %rax
-	movq	64(%rdi), %rcx
-	movq	72(%rdi), %rdx
+	movq	40(%rdx), %rax
+	movq	64(%rdx), %rcx
+	movq	72(%rdx), %rdx
 	movl	%esi, %edi
 	shrq	$6, %rsi
 	movq	(%rax,%rsi,8), %r8
@@ -362,9 +473,10 @@
 	je	.LBB4_26
 	jmp	.LBB4_28
 .LBB4_4:
-	movq	40(%rdi), %rax
-	movq	64(%rdi), %rcx
-	movq	72(%rdi), %rdx
+	movq	-8(%rsp), %rdx
+	movq	40(%rdx), %rax
+	movq	64(%rdx), %rcx
+	movq	72(%rdx), %rdx
 	movl	%esi, %r8d
 	shrq	$6, %rsi
 	movq	(%rax,%rsi,8), %rdi
@@ -5694,36 +5806,41 @@
 	.section	.rodata.cst16,"aM",@progbits,16
 	.p2align	4, 0x0
 .LCPI24_0:
+	.long	2147483648
+	.long	2147483648
+	.long	2147483648
+	.long	2147483648
+.LCPI24_1:
 	.long	16
 	.long	8
 	.long	4
 	.long	2
-.LCPI24_1:
+.LCPI24_2:
 	.long	4194304
 	.long	2097152
 	.long	1048576
 	.long	524288
-.LCPI24_2:
+.LCPI24_3:
 	.long	16384
 	.long	8192
 	.long	4096
 	.long	2048
-.LCPI24_3:
+.LCPI24_4:
 	.long	1073741824
 	.long	536870912
 	.long	268435456
 	.long	134217728
-.LCPI24_4:
+.LCPI24_5:
 	.long	262144
 	.long	131072
 	.long	65536
 	.long	32768
-.LCPI24_5:
+.LCPI24_6:
 	.long	1024
 	.long	512
 	.long	256
 	.long	128
-.LCPI24_6:
+.LCPI24_7:
 	.long	67108864
 	.long	33554432
 	.long	16777216
@@ -5751,57 +5868,68 @@
 	xorl	%r10d, %r10d
 	cmpl	124(%rdi,%rax), %ecx
 	setbe	%r10b
-	movdqu	108(%rdi,%rax), %xmm1
+	movdqu	108(%rdi,%rax), %xmm2
 	movd	%ecx, %xmm0
 	pshufd	$0, %xmm0, %xmm0
-	pminud	%xmm0, %xmm1
-	pcmpeqd	%xmm0, %xmm1
-	pand	.LCPI24_0(%rip), %xmm1
+	movdqa	.LCPI24_0(%rip), %xmm1
+	pxor	%xmm1, %xmm2
+	pxor	%xmm1, %xmm0
+	movdqa	%xmm0, %xmm3
+	pcmpgtd	%xmm2, %xmm3
+	pandn	.LCPI24_1(%rip), %xmm3
 	shll	$5, %r9d
 	shll	$6, %r8d
 	orl	%r10d, %r8d
 	orl	%r9d, %r8d
-	pshufd	$238, %xmm1, %xmm2
-	por	%xmm1, %xmm2
-	pshufd	$85, %xmm2, %xmm1
-	por	%xmm2, %xmm1
-	movd	%xmm1, %ecx
+	pshufd	$238, %xmm3, %xmm2
+	por	%xmm3, %xmm2
+	pshufd	$85, %xmm2, %xmm3
+	por	%xmm2, %xmm3
+	movd	%xmm3, %ecx
 	orl	%r8d, %ecx
 	movdqu	84(%rdi,%rax), %xmm3
-	movdqu	68(%rdi,%rax), %xmm5
-	movdqu	4(%rdi,%rax), %xmm2
-	movdqu	20(%rdi,%rax), %xmm1
+	movdqu	68(%rdi,%rax), %xmm4
+	movdqu	4(%rdi,%rax), %xmm5
+	movdqu	20(%rdi,%rax), %xmm2
 	movdqu	36(%rdi,%rax), %xmm6
-	movdqu	52(%rdi,%rax), %xmm4
-	pminud	%xmm0, %xmm6
-	pcmpeqd	%xmm0, %xmm6
-	pand	.LCPI24_1(%rip), %xmm6
-	pminud	%xmm0, %xmm5
-	pcmpeqd	%xmm0, %xmm5
-	pand	.LCPI24_2(%rip), %xmm5
-	pminud	%xmm0, %xmm2
-	pcmpeqd	%xmm0, %xmm2
-	pand	.LCPI24_3(%rip), %xmm2
-	por	%xmm5, %xmm2
-	por	%xmm6, %xmm2
-	pminud	%xmm0, %xmm4
-	pcmpeqd	%xmm0, %xmm4
-	pand	.LCPI24_4(%rip), %xmm4
-	pminud	%xmm0, %xmm3
-	pcmpeqd	%xmm0, %xmm3
-	pand	.LCPI24_5(%rip), %xmm3
-	pminud	%xmm0, %xmm1
-	pcmpeqd	%xmm0, %xmm1
-	pand	.LCPI24_6(%rip), %xmm1
-	por	%xmm3, %xmm1
-	por	%xmm4, %xmm1
-	por	%xmm2, %xmm1
+	movdqu	52(%rdi,%rax), %xmm7
+	pxor	%xmm1, %xmm6
+	movdqa	%xmm0, %xmm8
+	pcmpgtd	%xmm6, %xmm8
+	pandn	.LCPI24_2(%rip), %xmm8
+	pxor	%xmm1, %xmm4
+	movdqa	%xmm0, %xmm6
+	pcmpgtd	%xmm4, %xmm6
+	pandn	.LCPI24_3(%rip), %xmm6
+	pxor	%xmm1, %xmm5
+	movdqa	%xmm0, %xmm4
+	pcmpgtd	%xmm5, %xmm4
+	pandn	.LCPI24_4(%rip), %xmm4
+	por	%xmm6, %xmm4
+	por	%xmm8, %xmm4
+	pxor	%xmm1, %xmm7
+	movdqa	%xmm0, %xmm5
+	pcmpgtd	%xmm7, %xmm5
+	pandn	.LCPI24_5(%rip), %xmm5
+	pxor	%xmm1, %xmm3
+	movdqa	%xmm0, %xmm6
+	pcmpgtd	%xmm3, %xmm6
+	pandn	.LCPI24_6(%rip), %xmm6
+	pxor	%xmm1, %xmm2
+	pcmpgtd	%xmm2, %xmm0
+	pandn	.LCPI24_7(%rip), %xmm0
+	por	%xmm6, %xmm0
+	por	%xmm5, %xmm0
+	por	%xmm4, %xmm0
 	shll	$31, %esi
-	pextrd	$1, %xmm1, %eax
+	movd	%xmm0, %eax
+	pshufd	$85, %xmm0, %xmm1
 	movd	%xmm1, %edi
 	orl	%eax, %edi
-	pextrd	$2, %xmm1, %r8d
-	pextrd	$3, %xmm1, %eax
+	pshufd	$238, %xmm0, %xmm1
+	movd	%xmm1, %r8d
+	pshufd	$255, %xmm0, %xmm0
+	movd	%xmm0, %eax
 	addl	%r8d, %eax
 	addl	%edi, %eax
 	addl	%esi, %eax
@@ -8696,53 +8824,53 @@ cache_new_unchecked:
 	subq	$1944, %rsp
 	movq	%rsi, %r14
 	movq	%rdi, %r15
-	xorps	%xmm0, %xmm0
-	movaps	%xmm0, 176(%rsp)
-	movaps	%xmm0, 192(%rsp)
-	movaps	%xmm0, 208(%rsp)
-	movaps	%xmm0, 224(%rsp)
-	movaps	%xmm0, 240(%rsp)
-	movaps	%xmm0, 256(%rsp)
+	pxor	%xmm0, %xmm0
+	movdqa	%xmm0, 176(%rsp)
+	movdqa	%xmm0, 192(%rsp)
+	movdqa	%xmm0, 208(%rsp)
+	movdqa	%xmm0, 224(%rsp)
+	movdqa	%xmm0, 240(%rsp)
+	movdqa	%xmm0, 256(%rsp)
 	movq	$0, 272(%rsp)
-	movaps	%xmm0, 400(%rsp)
-	movaps	%xmm0, 416(%rsp)
-	movaps	%xmm0, 432(%rsp)
-	movaps	%xmm0, 448(%rsp)
-	movaps	%xmm0, 464(%rsp)
-	movaps	%xmm0, 480(%rsp)
-	movups	%xmm0, 495(%rsp)
-	movaps	%xmm0, 288(%rsp)
-	movaps	%xmm0, 304(%rsp)
-	movaps	%xmm0, 320(%rsp)
-	movaps	%xmm0, 336(%rsp)
-	movaps	%xmm0, 352(%rsp)
-	movaps	%xmm0, 368(%rsp)
+	movdqa	%xmm0, 400(%rsp)
+	movdqa	%xmm0, 416(%rsp)
+	movdqa	%xmm0, 432(%rsp)
+	movdqa	%xmm0, 448(%rsp)
+	movdqa	%xmm0, 464(%rsp)
+	movdqa	%xmm0, 480(%rsp)
+	movdqu	%xmm0, 495(%rsp)
+	movdqa	%xmm0, 288(%rsp)
+	movdqa	%xmm0, 304(%rsp)
+	movdqa	%xmm0, 320(%rsp)
+	movdqa	%xmm0, 336(%rsp)
+	movdqa	%xmm0, 352(%rsp)
+	movdqa	%xmm0, 368(%rsp)
 	movq	$0, 384(%rsp)
-	movaps	%xmm0, 528(%rsp)
-	movaps	%xmm0, 544(%rsp)
+	movdqa	%xmm0, 528(%rsp)
+	movdqa	%xmm0, 544(%rsp)
 	leaq	1656(%rsp), %rdi
 	xorl	%ebx, %ebx
 	movl	$288, %edx
 	xorl	%esi, %esi
 	callq	memset@PLT
-	xorps	%xmm0, %xmm0
-	movaps	%xmm0, 848(%rsp)
-	movaps	%xmm0, 864(%rsp)
-	movaps	%xmm0, 880(%rsp)
-	movaps	%xmm0, 896(%rsp)
-	movaps	%xmm0, 912(%rsp)
-	movaps	%xmm0, 928(%rsp)
-	movaps	%xmm0, 944(%rsp)
-	movaps	%xmm0, 960(%rsp)
-	movaps	%xmm0, 976(%rsp)
-	movaps	%xmm0, 992(%rsp)
-	movaps	%xmm0, 1008(%rsp)
-	movaps	%xmm0, 1024(%rsp)
-	movaps	%xmm0, 1040(%rsp)
-	movaps	%xmm0, 1056(%rsp)
-	movaps	%xmm0, 1072(%rsp)
-	movaps	%xmm0, 1088(%rsp)
-	movups	(%r15), %xmm0
+	pxor	%xmm0, %xmm0
+	movdqa	%xmm0, 848(%rsp)
+	movdqa	%xmm0, 864(%rsp)
+	movdqa	%xmm0, 880(%rsp)
+	movdqa	%xmm0, 896(%rsp)
+	movdqa	%xmm0, 912(%rsp)
+	movdqa	%xmm0, 928(%rsp)
+	movdqa	%xmm0, 944(%rsp)
+	movdqa	%xmm0, 960(%rsp)
+	movdqa	%xmm0, 976(%rsp)
+	movdqa	%xmm0, 992(%rsp)
+	movdqa	%xmm0, 1008(%rsp)
+	movdqa	%xmm0, 1024(%rsp)
+	movdqa	%xmm0, 1040(%rsp)
+	movdqa	%xmm0, 1056(%rsp)
+	movdqa	%xmm0, 1072(%rsp)
+	movdqa	%xmm0, 1088(%rsp)
+	movdqu	(%r15), %xmm1
 	movl	(%r15), %ebp
 	movl	12(%r15), %esi
 	leal	-1(%rsi), %eax
@@ -8757,7 +8885,8 @@ cache_new_unchecked:
 .LBB39_2:
 	testl	%esi, %esi
 	je	.LBB39_8
-	extractps	$1, %xmm0, %r13d
+	pshufd	$85, %xmm1, %xmm0
+	movd	%xmm0, %r13d
 	leal	-2(%r13), %eax
 	cmpl	$1048574, %eax
 	ja	.LBB39_8
@@ -8788,7 +8917,7 @@ cache_new_unchecked:
 	retq
 .LBB39_9:
 	movq	%rsi, 168(%rsp)
-	movaps	%xmm0, 512(%rsp)
+	movdqa	%xmm1, 512(%rsp)
 	leaq	(,%rbp,8), %rdi
 	movl	$8, %esi
 	callq	rattle_alloc@PLT
@@ -8883,8 +9012,8 @@ cache_new_unchecked:
 	movq	%r12, %rdi
 	callq	rattle_dealloc@PLT
 .LBB39_32:
-	xorps	%xmm0, %xmm0
-	movaps	%xmm0, 512(%rsp)
+	pxor	%xmm0, %xmm0
+	movdqa	%xmm0, 512(%rsp)
 	movl	$2, %ebp
 	xorl	%r15d, %r15d
 	xorl	%r14d, %r14d
@@ -8904,10 +9033,10 @@ cache_new_unchecked:
 	movaps	%xmm2, 208(%rsp)
 	movaps	%xmm1, 192(%rsp)
 	movaps	%xmm0, 176(%rsp)
-	movaps	528(%rsp), %xmm0
-	movaps	544(%rsp), %xmm1
-	movaps	%xmm0, 16(%rsp)
-	movaps	%xmm1, 32(%rsp)
+	movdqa	528(%rsp), %xmm0
+	movdqa	544(%rsp), %xmm1
+	movdqa	%xmm0, 16(%rsp)
+	movdqa	%xmm1, 32(%rsp)
 	leaq	1360(%rsp), %rdi
 	leaq	1656(%rsp), %rsi
 	movl	$288, %edx
@@ -8939,10 +9068,10 @@ cache_new_unchecked:
 	movq	$0, 120(%r15)
 	movaps	512(%rsp), %xmm0
 	movups	%xmm0, 128(%r15)
-	movaps	16(%rsp), %xmm0
-	movaps	32(%rsp), %xmm1
-	movups	%xmm0, 144(%r15)
-	movups	%xmm1, 160(%r15)
+	movdqa	16(%rsp), %xmm0
+	movdqa	32(%rsp), %xmm1
+	movdqu	%xmm0, 144(%r15)
+	movdqu	%xmm1, 160(%r15)
 	leaq	176(%r15), %rdi
 	leaq	1360(%rsp), %rsi
 	movl	$288, %edx
@@ -8974,13 +9103,13 @@ cache_new_unchecked:
 	incq	%rax
 .LBB39_26:
 	movq	%rax, 120(%rsp)
-	xorps	%xmm0, %xmm0
-	movaps	%xmm0, 1440(%rsp)
-	movaps	%xmm0, 1424(%rsp)
-	movaps	%xmm0, 1408(%rsp)
-	movaps	%xmm0, 1392(%rsp)
-	movaps	%xmm0, 1376(%rsp)
-	movaps	%xmm0, 1360(%rsp)
+	pxor	%xmm0, %xmm0
+	movdqa	%xmm0, 1440(%rsp)
+	movdqa	%xmm0, 1424(%rsp)
+	movdqa	%xmm0, 1408(%rsp)
+	movdqa	%xmm0, 1392(%rsp)
+	movdqa	%xmm0, 1376(%rsp)
+	movdqa	%xmm0, 1360(%rsp)
 	movq	$0, 1456(%rsp)
 	movl	%r13d, %ecx
 	xorl	%edi, %edi
@@ -9366,37 +9495,37 @@ cache_new_unchecked:
 	movaps	%xmm0, 368(%rsp)
 	movups	471(%rsp), %xmm0
 	movaps	%xmm0, 352(%rsp)
-	movups	407(%rsp), %xmm0
-	movups	423(%rsp), %xmm1
+	movdqu	407(%rsp), %xmm0
+	movdqu	423(%rsp), %xmm1
 	movups	439(%rsp), %xmm2
 	movups	455(%rsp), %xmm3
 	movaps	%xmm3, 336(%rsp)
 	movaps	%xmm2, 320(%rsp)
-	movaps	%xmm1, 304(%rsp)
-	movaps	%xmm0, 288(%rsp)
+	movdqa	%xmm1, 304(%rsp)
+	movdqa	%xmm0, 288(%rsp)
 	movaps	%xmm4, 544(%rsp)
 	movaps	%xmm4, 528(%rsp)
 	leaq	1656(%rsp), %rdi
 	leaq	560(%rsp), %rsi
 	movl	$288, %edx
 	callq	memcpy@PLT
-	xorps	%xmm0, %xmm0
-	movaps	%xmm0, 848(%rsp)
-	movaps	%xmm0, 864(%rsp)
-	movaps	%xmm0, 880(%rsp)
-	movaps	%xmm0, 896(%rsp)
-	movaps	%xmm0, 912(%rsp)
-	movaps	%xmm0, 928(%rsp)
-	movaps	%xmm0, 944(%rsp)
-	movaps	%xmm0, 960(%rsp)
-	movaps	%xmm0, 976(%rsp)
-	movaps	%xmm0, 992(%rsp)
-	movaps	%xmm0, 1008(%rsp)
-	movaps	%xmm0, 1024(%rsp)
-	movaps	%xmm0, 1040(%rsp)
-	movaps	%xmm0, 1056(%rsp)
-	movaps	%xmm0, 1072(%rsp)
-	movaps	%xmm0, 1088(%rsp)
+	pxor	%xmm0, %xmm0
+	movdqa	%xmm0, 848(%rsp)
+	movdqa	%xmm0, 864(%rsp)
+	movdqa	%xmm0, 880(%rsp)
+	movdqa	%xmm0, 896(%rsp)
+	movdqa	%xmm0, 912(%rsp)
+	movdqa	%xmm0, 928(%rsp)
+	movdqa	%xmm0, 944(%rsp)
+	movdqa	%xmm0, 960(%rsp)
+	movdqa	%xmm0, 976(%rsp)
+	movdqa	%xmm0, 992(%rsp)
+	movdqa	%xmm0, 1008(%rsp)
+	movdqa	%xmm0, 1024(%rsp)
+	movdqa	%xmm0, 1040(%rsp)
+	movdqa	%xmm0, 1056(%rsp)
+	movdqa	%xmm0, 1072(%rsp)
+	movdqa	%xmm0, 1088(%rsp)
 	xorl	%ebp, %ebp
 	movl	$64, %ebx
 	movl	$1, %r14d
