@@ -131,8 +131,8 @@ versions() {
     [ "$(./apcu_run --version)" = "apcu_run $version" ]
     grep -q "^## $version " CHANGELOG.md
     grep -q "<release>$version</release>" php/ext/package.xml.in
-    head -n 1 php/ext/debian/changelog | grep -qF "($version)"
-    php -n -d extension=php/ext/modules/apcu.so --ri apcu | grep -qx "Cache Version => $version"
+    head -n 1 php/ext/debian/changelog | grep -F "($version)"
+    php -n -d extension=php/ext/modules/apcu.so --ri apcu | grep -x "Cache Version => $version"
 }
 
 has php phpize make cc git || exit 1

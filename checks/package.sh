@@ -21,29 +21,24 @@ done
 php=$(php-config --version | cut -d . -f 1,2)
 name=php$php-apcu-yilumbaso
 
-# Makes the package in a copy of the files that git has here, and of the program if it was built: made NAME [VERSION]
+# Makes the package in a copy of the files that git has here, and of the program if it was built.
 made() {
     local tree=$scratch/$1 program=crates/apcu_run/out/apcu_run
     mkdir "$tree"
     git -C "$top" ls-files -z --cached --others --exclude-standard | grep -zv '^crates/' >"$scratch/names"
     tar -C "$top" --ignore-failed-read --null -T "$scratch/names" -cf - 2>/dev/null | tar -C "$tree" -xf -
     if [ -x "$top/$program" ]; then install -D "$top/$program" "$tree/$program"; fi
-    if [ -n "${2:-}" ]; then
-        sed -n '1s/(.*)/('"$2"')/p;2,$p' "$top/php/ext/debian/changelog" >"$tree/php/ext/debian/changelog"
-    fi
     (cd "$tree/php/ext" && DEB_BUILD_OPTIONS="parallel=2 nocheck" dpkg-buildpackage -us -uc -b) >"$tree/log" 2>&1 ||
         { tail -n 40 "$tree/log" >&2; exit 1; }
 }
 
 made first
 made a-second-one
-made later 1.0.1~later
 package=$(echo "$scratch/first/php/$name"_*.deb)
 cmp "$package" "$scratch/a-second-one/php/$(basename "$package")"
 for file in "$scratch"/first/php/*.deb; do
     case $file in *-dbgsym_*) ;; *) echo "made, twice the same: $(basename "$file"), $(stat -c %s "$file") bytes" ;; esac
 done
-grep -E '^hardening|DEB_BUILD' "$scratch/first/log" || true
 lintian --fail-on error "$scratch"/first/php/*.changes >"$scratch/lintian" 2>&1 || { cat "$scratch/lintian" >&2; exit 1; }
 echo "lintian: no error, $(grep -c '^W:' "$scratch/lintian" || true) warnings"
 sed -n 's/^W: /  /p' "$scratch/lintian"
@@ -53,8 +48,8 @@ so=$(find "$scratch/files" -name apcu.so)
 [ -f "$(find "$scratch/files" -path "*/ext/apcu/apc_serializer.h")" ] || { echo 'no apc_serializer.h' >&2; exit 1; }
 needed=$(objdump -p "$so" | awk '$1 == "NEEDED" { print $2 }' | tr '\n' ' ')
 [ "$needed" = 'libc.so.6 ' ] || { echo "apcu.so needs more than the C library: $needed" >&2; exit 1; }
-objdump -p "$so" | grep -qE 'FLAGS.*0x0*8|BIND_NOW' || { echo 'apcu.so is without BIND_NOW' >&2; exit 1; }
-objdump -T "$so" | grep -q '__.*_chk' || { echo 'apcu.so is without _FORTIFY_SOURCE' >&2; exit 1; }
+readelf -d "$so" | grep BIND_NOW >/dev/null || { echo 'apcu.so is without BIND_NOW' >&2; exit 1; }
+nm -D "$so" | grep '__.*_chk' >/dev/null || { echo 'apcu.so is without _FORTIFY_SOURCE' >&2; exit 1; }
 [ "$(nm -D --defined-only "$so" | awk '{ print $3 }')" = get_module ] || { echo 'apcu.so exports more than get_module' >&2; exit 1; }
 (cd "$scratch/files/usr/share/doc/$name" && grep -oE '\]\([^):]*\)' ./*.md | sed 's/.*(//;s/)$//' | sort -u | while read -r link; do
     [ -e "$link" ] || { echo "a dead link: $link" >&2; exit 1; }
@@ -65,12 +60,17 @@ if [ "$(id -u)" != 0 ] || ! unshare -m true 2>/dev/null || ! grep -q overlay /pr
     echo 'not installed: that needs root and overlays' >&2
     exit 1
 fi
+# The same as a later version, for the upgrade.
+later=$scratch/later.deb
+dpkg-deb -R "$package" "$scratch/later"
+sed -i 's/^Version: .*/Version: 1.0.1~later/' "$scratch/later/DEBIAN/control"
+dpkg-deb --root-owner-group -b "$scratch/later" "$later" >/dev/null
 cat >"$scratch/in" <<'END'
 set -eu
 first=$1 later=$2 php=$3 name=$4
 export DEBIAN_FRONTEND=noninteractive
 get() { apt-get -q -y -o APT::Sandbox::User=root "$@" >/tmp/log 2>&1 || { cat /tmp/log; exit 1; }; }
-ours() { php --ri apcu | grep -q '^Cache => Yilumbaso'; }
+ours() { php --ri apcu | grep '^Cache => Yilumbaso' >/dev/null; }
 has() { dpkg-query -W -f '${db:Status-Abbrev} ${Version}' "$1" 2>/dev/null; }
 answers() { php -d apc.enable_cli=1 -r 'exit(apcu_store("a", 5) && apcu_inc("a") === 6 ? 0 : 1);'; }
 is_on() { local folder; for folder in /etc/php/"$php"/*/conf.d; do [ -e "$folder/20-apcu.ini" ] || { echo "not switched on in $folder"; exit 1; }; done; }
@@ -102,7 +102,7 @@ get install "$first"
 ours && answers
 state 'installed again'
 get purge php-apcu "$name"
-if php -m 2>&1 | grep -qi apcu; then echo 'PHP still has apcu'; exit 1; fi
+if php -m 2>&1 | grep -i apcu; then echo 'PHP still has apcu'; exit 1; fi
 [ ! -e /etc/php/"$php"/mods-available/apcu.ini ] || { echo 'the settings are still there'; exit 1; }
 state 'purged'
 END
@@ -122,5 +122,5 @@ unshare -m bash -eu -c '
     done
     chroot "$1/tree" env -i PATH=/usr/sbin:/usr/bin:/sbin:/bin bash "/var/tmp/$(basename "$2")" \
         "/var/tmp/$(basename "$3")" "/var/tmp/$(basename "$4")" "$5" "$6"
-' - "$scratch/overlay" "$scratch/in" "$package" "$(echo "$scratch/later/php/$name"_*.deb)" "$php" "$name"
+' - "$scratch/overlay" "$scratch/in" "$package" "$later" "$php" "$name"
 echo 'installed, upgraded, and back'
