@@ -72,36 +72,37 @@ export DEBIAN_FRONTEND=noninteractive
 get() { apt-get -q -y -o APT::Sandbox::User=root "$@" >/tmp/log 2>&1 || { cat /tmp/log; exit 1; }; }
 ours() { php --ri apcu | grep '^Cache => Yilumbaso' >/dev/null; }
 has() { dpkg-query -W -f '${db:Status-Abbrev} ${Version}' "$1" 2>/dev/null; }
+works() { ours && answers && is_on; }
 answers() { php -d apc.enable_cli=1 -r 'exit(apcu_store("a", 5) && apcu_inc("a") === 6 ? 0 : 1);'; }
-is_on() { local folder; for folder in /etc/php/"$php"/*/conf.d; do [ -e "$folder/20-apcu.ini" ] || { echo "not switched on in $folder"; exit 1; }; done; }
+is_on() { local folder; for folder in /etc/php/"$php"/*/conf.d; do [ -e "$folder/20-apcu.ini" ] || return; done; }
 state() { echo "$1: $(has "$name" || true)| php$php-apcu $(has "php$php-apcu" || true)"; }
 
 get install php-apcu
 if ours; then echo 'php-apcu is not what PHP loads'; exit 1; fi
-answers
+answers || { echo 'APCu does not answer'; exit 1; }
 echo '; apc.ttl of the site' >>/etc/php/"$php"/mods-available/apcu.ini
 state 'before'
 get install "$first"
-ours && answers && is_on
+works || { echo 'it does not answer'; exit 1; }
 grep -q 'of the site' /etc/php/"$php"/mods-available/apcu.ini || { echo 'the settings are not those of before'; exit 1; }
-has php-apcu | grep -q '^ii' || { echo 'php-apcu went, too'; exit 1; }
+has php-apcu | grep '^ii' >/dev/null || { echo 'php-apcu went, too'; exit 1; }
 apt-get check >/dev/null
 get -s install php-symfony-cache
 state 'installed'
 get install "$later"
-ours && answers && is_on
+works || { echo 'it does not answer'; exit 1; }
 grep -q 'of the site' /etc/php/"$php"/mods-available/apcu.ini
-has "$name" | grep -q later
+has "$name" | grep later >/dev/null
 state 'upgraded'
 get install "php$php-apcu"
 if ours; then echo 'the extension is still there'; exit 1; fi
-answers && is_on
+if ! answers || ! is_on; then echo 'APCu does not answer'; exit 1; fi
 apt-get check >/dev/null
 state 'back'
 get install "$first"
-ours && answers
+works || { echo 'it does not answer'; exit 1; }
 state 'installed again'
-get purge php-apcu "$name"
+get purge php-apcu "php$php-apcu" "$name"
 if php -m 2>&1 | grep -i apcu; then echo 'PHP still has apcu'; exit 1; fi
 [ ! -e /etc/php/"$php"/mods-available/apcu.ini ] || { echo 'the settings are still there'; exit 1; }
 state 'purged'
