@@ -16,12 +16,13 @@ cpus=(x86_64 aarch64)
 
 say() { printf 'write.sh: %s\n' "$1" >&2; }
 
-# The checksum of each crate's sources: of the names and checksums of the files in src/.
+# The checksum of each crate's sources: of the names and the lines of the files in src/, without lines of comment.
 sums() {
     local crate
     "$top/prove" --library --list | while read -r crate; do
         printf ' *   %s %s\n' "$(cd "$top/crates/$crate" && find src -type f -print0 | LC_ALL=C sort -z |
-            xargs -0 sha256sum | sha256sum | cut -d ' ' -f 1)" "$crate"
+            while IFS= read -r -d '' file; do echo "$file" && sed '/^[[:space:]]*\/\//d' "$file"; done |
+            sha256sum | cut -d ' ' -f 1)" "$crate"
     done
 }
 
@@ -41,7 +42,7 @@ head_of() {
  *   $(cat "$folder/cache_c.$cpu.verdict")
  *   $(rt version)
  *
- * The crates, each with the SHA-256 of its sources:
+ * The crates, each with the SHA-256 of its sources without comments:
  *
 $(cat "$folder/sums")
  */
