@@ -27,6 +27,12 @@
 extern "C" {
 #endif
 
+/* The version of this header and of the engine with it, major.minor.patch; major changes if a program must be changed. */
+#define CACHE_C_VERSION "1.0.0"
+
+/* CACHE_C_VERSION of the shared_cache.c that the program is linked with, which defines this. */
+const char *cache_c_version(void);
+
 /* The library asks for memory by four functions, which its user defines. */
 
 /* Memory, or that there is none. `at` is not null, also where there is none. */

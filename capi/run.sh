@@ -1,21 +1,30 @@
 #!/usr/bin/env bash
 # Compiles the programs of this folder over the library for C, runs each in bounded time, and judges what it prints:
-# `test` makes each call, with each null too, `reads` looks up by many and counts later, `forked` has eight processes that count to a million and 300 that are
-# killed, `copies` reads outside of the lock while others store, `deaths` kills one behind instruction after instruction, `locks` the same at the lock alone, and `full` fills
-# 2 GB of words and reads them back. The last line is 'N passed, N failed'; what this machine or this library can't do is skipped and said.
-# `memory` looks at what calls do with memory.
-# Usage: capi/run.sh [--quick]; --quick leaves out the 2 GB and `locks`. CACHE_C_LIB=FILE in the environment is the
-# library; else ../prove proves and builds it.
+# `test` makes each call, with each null too, `reads` looks up by many and counts later, `forked` has eight processes
+# that count to a million and 300 that are killed, `copies` reads outside of the lock while others store, `deaths` kills
+# one after instruction after instruction, `locks` the same at the lock alone, `full` fills 2 GB of words and reads them
+# back, and `memory` looks at what calls do with memory. The last line is 'N passed, N failed'; what this machine or this
+# library can't do is skipped, and a line says so.
+#
+#   capi/run.sh [--quick]
+#
+# --quick leaves out the 2 GB and `locks`. CACHE_C_LIB=FILE in the environment is a library to link in place of the
+# engine's assembly text.
 set -eu -o pipefail
 here=$(cd "$(dirname "${BASH_SOURCE[0]}")" && pwd)
+case "$# ${1:-}" in
+    '0 ' | '1 --quick') ;;
+    '1 -h' | '1 --help') sed -n '2,/^set/{/SPDX/d;/^#/s/^# \{0,1\}//p}' "$0" && exit ;;
+    *) echo 'usage: capi/run.sh [--quick]' >&2 && exit 1 ;;
+esac
 scratch=$(mktemp -d)
 trap 'rm -rf "$scratch"' EXIT
 passed=0 failed=0
 
 library=${CACHE_C_LIB:-}
 if [ -z "$library" ]; then
-    "$here/../prove" --library
-    library=$here/../crates/cache_c/out/libcache_c.a
+    library=$scratch/cache_c.o
+    cc -c "$here/engine/cache_c.$(uname -m).s" -o "$library"
 fi
 flags=(-std=c11 -O2 -Wall -Wextra -Wpedantic -Wshadow -Wconversion -Werror)
 

@@ -10,6 +10,8 @@
 #include <string.h>
 #include <sys/mman.h>
 
+const char *cache_c_version(void) { return CACHE_C_VERSION; }
+
 enum { LINE = 64 }; /* bytes of a line of the processor's cache; a multiple of every alignment */
 
 /* What the mapping begins with. Behind it stand the handle and then the room, from which the

@@ -454,6 +454,7 @@ static void nulls(void) {
 
 int main(int argc, char **argv) {
     bool only_nulls = argc > 1 && strcmp(argv[1], "nulls") == 0;
+    WANT(strcmp(cache_c_version(), CACHE_C_VERSION) == 0);
     uint32_t made = shared_start(&shape);
     WANT(made == CACHE_MADE);
     if (made == CACHE_MADE) {

@@ -25,6 +25,7 @@ require __DIR__ . '/report/site.php';
 const FULL_BYTES = 62_000_000;
 const USUAL_SLOTS = 4096;
 
+help($argv);
 ini_set('memory_limit', '-1');
 [$is_one, $output, $files] = asked(array_slice($argv, 1));
 if (array_filter($files, is_recorded(...)) !== []) {

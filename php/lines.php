@@ -114,3 +114,14 @@ function give_up(string $text): never
     tell($text);
     exit(1);
 }
+
+/** If the words of a script ask for help, prints the comment at its head, and ends. */
+function help(array $words): void
+{
+    if (array_intersect(array_slice($words, 1), ['-h', '--help']) === []) {
+        return;
+    }
+    preg_match('~^//.*\n(//.*\n|\n)*~m', file_get_contents($words[0]), $head);
+    echo preg_replace('~^// ?~m', '', rtrim($head[0])), "\n";
+    exit;
+}

@@ -10,6 +10,7 @@ namespace ApcuRecord;
 require __DIR__ . '/lines.php';
 require __DIR__ . '/report/map.php';
 
+help($argv);
 count($argv) === 2 || give_up('usage: php map.php OUTPUT > map.svg');
 $lines = lines_of(opened($argv[1]));
 reaches_map($lines) || give_up("$argv[1] has no map: play with --map 1");

@@ -329,6 +329,7 @@ void apcu_info_print(void)
 	php_info_print_table_row(2, "APCu Support", apcu_shm ? "Enabled" : "Disabled");
 	php_info_print_table_row(2, "Version", PHP_APCU_VERSION);
 	php_info_print_table_row(2, "Cache", "Yilumbaso");
+	php_info_print_table_row(2, "Cache Version", PHP_APCU_CACHE_VERSION);
 	php_info_print_table_row(2, "APCu Debugging", "Disabled");
 	php_info_print_table_row(2, "MMAP Support", "Enabled");
 	php_info_print_table_row(2, "MMAP File Mask", APCU_G(mmap_file_mask));

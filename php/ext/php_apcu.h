@@ -14,6 +14,9 @@
 /* The version of APCu whose functions these are; ext-apcu of a composer.json is compared with it. */
 #define PHP_APCU_VERSION "5.1.22"
 
+/* The version of this extension itself. */
+#define PHP_APCU_CACHE_VERSION CACHE_C_VERSION
+
 ZEND_BEGIN_MODULE_GLOBALS(apcu)
 	/* Settings, by their names in an ini file. */
 	bool enabled;

@@ -120,14 +120,13 @@ check_changes() {
 # Builds the extension with one text of a file changed, and judges what it records: wrong NAME FILE OLD NEW
 wrong() {
     local name=$1 folder="$scratch/build.$1"
-    mkdir -p "$folder/php/ext"
-    cp "$here"/../*.[ch] "$here/../config.m4" "$here/../build.sh" "$folder/php/ext/"
+    "$here/../stage.sh" "$folder"
     php -r '[, $file, $old, $new] = $argv; $text = file_get_contents($file);
         substr_count($text, $old) === 1 || exit("$old does not stand there once\n");
-        file_put_contents($file, str_replace($old, $new, $text));' "$folder/php/ext/$2" "$3" "$4"
-    CACHE_C_LIB="$here/../build/cache_c/libcache_c.a" "$folder/php/ext/build.sh" >/dev/null
+        file_put_contents($file, str_replace($old, $new, $text));' "$folder/$2" "$3" "$4"
+    (cd "$folder" && phpize && ./configure && make) >"$folder/log" 2>&1 || { tail "$folder/log" >&2; exit 1; }
     echo "a build that is wrong: $name"
-    work "$scratch/wrong.$name" "$folder/php/ext/modules/apcu.so"
+    work "$scratch/wrong.$name" "$folder/modules/apcu.so"
     judge "$scratch/wrong.$name" 9 'not the due reply'
 }
 

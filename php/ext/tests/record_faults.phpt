@@ -25,7 +25,7 @@ $text = taken_record($folder);
 var_dump(strlen($text) > 50000, str_starts_with($text, "shm-size 33554432\nslots 4096\nttl 0\nvalues 1\npart 0\ntime now\n0 apcu_store s:2:\"k0\";"));
 
 // The server opened the folder: its processes make their files there, whatever its name is by now.
-$so = file_exists($file = ini_get('extension_dir') . '/pcntl.so') ? "extension=$file" : 'apc.smart=0';
+$so = file_exists($file = PHP_EXTENSION_DIR . '/pcntl.so') ? "extension=$file" : 'apc.smart=0';
 echo run_php("apcu_store('a', 1); rename('$folder', '$folder.old'); touch('$folder'); if (pcntl_fork() === 0) { apcu_store('a', 2); exit; } pcntl_wait(\$s); apcu_store('a', 3); var_dump(apcu_fetch('a'));", "apc.record_dir=$folder", $so);
 unlink($folder);
 echo taken_record("$folder.old");

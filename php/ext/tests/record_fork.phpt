@@ -11,7 +11,7 @@ if (!function_exists('pcntl_fork') || !function_exists('posix_kill')) die('skip 
 require __DIR__ . '/common.inc';
 require __DIR__ . '/record.inc';
 
-$so = fn (string $name): string => file_exists($file = ini_get('extension_dir') . "/$name.so") ? "extension=$file" : 'apc.smart=0';
+$so = fn (string $name): string => file_exists($file = PHP_EXTENSION_DIR . "/$name.so") ? "extension=$file" : 'apc.smart=0';
 $set = ["apc.record_dir=$folder", 'apc.use_request_time=1', $so('pcntl'), $so('posix')];
 
 echo run_php('apcu_store("p", 1); if (pcntl_fork() === 0) { apcu_inc("p"); exit; } pcntl_wait($s); apcu_fetch("p");', ...$set);

@@ -13,7 +13,7 @@ require __DIR__ . '/record.inc';
 
 $sos = [];
 foreach (['pcntl', 'posix'] as $name) {
-    $sos[] = file_exists($file = ini_get('extension_dir') . "/$name.so") ? "extension=$file" : 'apc.smart=0';
+    $sos[] = file_exists($file = PHP_EXTENSION_DIR . "/$name.so") ? "extension=$file" : 'apc.smart=0';
 }
 // The work of two users, after a master of root's has started.
 $code = <<<'CODE'

@@ -11,7 +11,7 @@ if (!function_exists('pcntl_fork') || !is_executable('/bin/true')) die('skip pcn
 require __DIR__ . '/common.inc';
 require __DIR__ . '/record.inc';
 
-$so = file_exists($file = ini_get('extension_dir') . '/pcntl.so') ? "extension=$file" : 'apc.smart=0';
+$so = file_exists($file = PHP_EXTENSION_DIR . '/pcntl.so') ? "extension=$file" : 'apc.smart=0';
 $set = ["apc.record_dir=$folder", 'apc.use_request_time=1', $so];
 mkdir("$folder.preload");
 file_put_contents("$folder.preload/a.data", serialize(5));
