@@ -15,35 +15,35 @@ One worker: the replies, the journal, a line too many, one without its line feed
   $ judged 4096 32 'worker 0\nb:1;\ni:6;b:1;\njournal\n0\n0\n0\n'
   no: byte 16
   apcu_run: differs
-  [11]
+  [9]
   $ judged 4096 32 'worker 0\nb:1;\ni:5;b:1;\njournal\n0\n0\n'
   no: event 2
   apcu_run: differs
-  [11]
+  [9]
   $ judged 4096 32 'worker 0\nb:1;\ni:5;b:1;\njournal\n0 0\n0\n0\n'
   no: event 0
   apcu_run: differs
-  [11]
+  [9]
   $ judged 4096 32 'worker 0\nb:1;\ni:5;b:1;\n'
   no: journal
   apcu_run: differs
-  [11]
+  [9]
   $ judged 4096 32 ''
   no: journal
   apcu_run: differs
-  [11]
+  [9]
   $ judged 4096 32 'worker 0\nb:1;\ni:5;b:1;\njournal\n0\n0\n0\n0\n'
   no: event 3
   apcu_run: differs
-  [11]
+  [9]
   $ judged 4096 32 'worker 0\nb:1;\ni:5;b:1;\njournal\n0\n0\n0'
   no: event 2
   apcu_run: differs
-  [11]
+  [9]
   $ judged 4096 32 'journal\n0\n0\n0\n'
   no: byte 0
   apcu_run: differs
-  [11]
+  [9]
 
 Without scripts there is no event.
 
@@ -53,7 +53,7 @@ Without scripts there is no event.
   $ judged 4096 32 'journal\n0\n'
   no: event 0
   apcu_run: differs
-  [11]
+  [9]
 
 The masks of the journal. Worker 1 deletes a block of 18 words while worker 0 copies it: there is no room for another
 one in 30 words until that copy has ended.
@@ -72,11 +72,11 @@ one in 30 words until that copy has ended.
   $ judged 256 2 'worker 0\nb:1;\na:1:{i:0;i:5;}b:1;\nworker 1\nb:1;\nb:0;\nb:1;\njournal\n0\n0\n1 0\n1\n0\n1\n1\n'
   no: byte 49
   apcu_run: differs
-  [11]
+  [9]
   $ judged 256 2 'worker 0\nb:1;\na:1:{i:0;i:5;}b:1;\nworker 1\nb:1;\nb:0;\nb:1;\njournal\n0\n0\n1 0\n1 0\n0\n1 0\n1\n'
   no: event 5
   apcu_run: differs
-  [11]
+  [9]
 
 Scripts that are refused, whatever the output is, and an input that is too short.
 
@@ -145,4 +145,4 @@ A map that is not asked for.
   > END
   no: journal
   apcu_run: differs
-  [11]
+  [9]
