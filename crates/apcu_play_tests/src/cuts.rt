@@ -46,6 +46,15 @@ const CASES: &[Case] = &[
     (&["--verify=52"], STORE_AND_FETCH, b"no: journal\n", 4),
 ];
 
+// Writes of this many bytes, of which the one of this number fails.
+fn unwritten<'a>(input: &'a [u8], piece: usize, at: &'a [u64]) -> Streams<'a> {
+    Streams {
+        piece,
+        fails: [[].as_slice(), at],
+        ..smooth(input)
+    }
+}
+
 #[test]
 fn outputs_that_are_cut(rt: HostRuntime) -> Result<(), Fail> {
     for case in CASES {
@@ -53,11 +62,7 @@ fn outputs_that_are_cut(rt: HostRuntime) -> Result<(), Fail> {
         assert!(rt; piece > 0);
         for at in 0..printed.len() / piece {
             let fails = [at as u64];
-            let streams = Streams {
-                piece,
-                fails: [[].as_slice(), &fails],
-                ..smooth(input)
-            };
+            let streams = unwritten(input, piece, &fails);
             let message = b"apcu_run: write fault\n".as_slice();
             let wanted = (Status::WriteFault, &printed[..piece * at], message);
             expect_on(&rt, rt.alloc(), options, streams, wanted)?;

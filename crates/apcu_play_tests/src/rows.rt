@@ -4,7 +4,11 @@ use crate::pieces::Piece::{self, Text, Zs};
 use crate::pieces::spelled;
 use crate::runs::{SMALL, expect_on, smooth};
 use apcu_play::Status;
+use std::alloc::Global;
+use std::process::Abort;
+use std::sync::Wait;
 use std::test::Fail;
+use std::thread::Threads;
 
 // The options and the input; how the run ends, what it prints and its message.
 struct Row {
@@ -51,7 +55,8 @@ const THIRTY_STORED: &[u8] = b"worker 0\n\
 const THIRTY_EVENTS: &[u8] = b"journal\n\
     0\n0\n0\n0\n0\n0\n0\n0\n0\n0\n0\n0\n0\n0\n0\n0\n0\n0\n0\n0\n0\n0\n0\n0\n0\n0\n0\n0\n0\n0\n";
 
-const ROWS: &[Row] = &[
+// Values.
+const VALUES: &[Row] = &[
     // No script.
     Row {
         printed: &[Text(b"journal\n")],
@@ -122,6 +127,10 @@ const ROWS: &[Row] = &[
         message: b"apcu_run: script: byte 38: target\n",
         ..REFUSED
     },
+];
+
+// The room in a cache.
+const ROOM: &[Row] = &[
     // 482 words are too many, 480 are all.
     Row {
         input: &[
@@ -204,6 +213,10 @@ const ROWS: &[Row] = &[
         ],
         ..DONE
     },
+];
+
+// Times to live, counters, entries and a walk.
+const CALLS: &[Row] = &[
     // A row expires.
     Row {
         input: &[Text(
@@ -288,6 +301,10 @@ const ROWS: &[Row] = &[
         )],
         ..DONE
     },
+];
+
+// Free blocks, references and fetches of several keys.
+const BLOCKS: &[Row] = &[
     // An object with a property of each kind, in the cache without options.
     Row {
         options: &[],
@@ -383,6 +400,10 @@ const ROWS: &[Row] = &[
         message: b"apcu_run: script: byte 20: argument\n",
         ..REFUSED
     },
+];
+
+// Statistics, events and generated scripts.
+const EVENTS: &[Row] = &[
     // Statistics of a key.
     Row {
         input: &[Text(
@@ -459,19 +480,43 @@ const ROWS: &[Row] = &[
     },
 ];
 
-#[test]
-fn worked_runs(rt: HostRuntime) -> Result<(), Fail> {
-    for row in ROWS {
-        let input = spelled(rt.alloc(), row.input)?;
-        let printed = spelled(rt.alloc(), row.printed)?;
+// Each row of a table ends as it says. The tables are small, since what the borrow checker proves of
+// a body grows with the constants that it names.
+fn expect_rows<R: Threads + Wait + Sync + Abort>(
+    rt: &R,
+    alloc: Global,
+    rows: &[Row],
+) -> Result<(), Fail> {
+    for row in rows {
+        let input = spelled(alloc, row.input)?;
+        let printed = spelled(alloc, row.printed)?;
         let wanted = (row.status, printed.as_slice(), row.message);
-        expect_on(
-            &rt,
-            rt.alloc(),
-            row.options,
-            smooth(input.as_slice()),
-            wanted,
-        )?;
+        expect_on(rt, alloc, row.options, smooth(input.as_slice()), wanted)?;
     }
     Ok(())
+}
+
+#[test]
+fn worked_runs_of_values(rt: HostRuntime) -> Result<(), Fail> {
+    expect_rows(&rt, rt.alloc(), VALUES)
+}
+
+#[test]
+fn worked_runs_of_room(rt: HostRuntime) -> Result<(), Fail> {
+    expect_rows(&rt, rt.alloc(), ROOM)
+}
+
+#[test]
+fn worked_runs_of_calls(rt: HostRuntime) -> Result<(), Fail> {
+    expect_rows(&rt, rt.alloc(), CALLS)
+}
+
+#[test]
+fn worked_runs_of_blocks(rt: HostRuntime) -> Result<(), Fail> {
+    expect_rows(&rt, rt.alloc(), BLOCKS)
+}
+
+#[test]
+fn worked_runs_of_events(rt: HostRuntime) -> Result<(), Fail> {
+    expect_rows(&rt, rt.alloc(), EVENTS)
 }
