@@ -14,12 +14,12 @@ use std::test::Fail;
 use std::thread::{Threads, join};
 
 // Each worker stores a key of its own. They meet, and then each asks whether the other one's key is
-// there.
+// there. The second of the result is whether both stored, and both found it.
 fn two_rounds<N: TableName + Send + Sync, R: Threads + Wait + Sync>(
     rt: &R,
     fresh: Fresh,
     value: &Graph,
-) -> Option<(Closed, [bool; 4])>
+) -> Option<(Closed, bool)>
     requires sync { IsSync R.row }
     requires table { N.table ≡ fresh.table }
     requires conf { N.conf ≡ fresh.conf }
@@ -61,7 +61,7 @@ fn two_rounds<N: TableName + Send + Sync, R: Threads + Wait + Sync>(
     );
     ended.push(shared.retire(rt, c.0));
     ended.push(shared.retire(rt, d.0));
-    Some((shared.close(rt, ended), [a.1, b.1, c.1, d.1]))
+    Some((shared.close(rt, ended), a.1 && b.1 && c.1 && d.1))
 }
 
 #[test]
@@ -74,7 +74,7 @@ fn calls_after_a_meeting_see_those_before_it(rt: HostRuntime) -> Result<(), Fail
     let Some((closed, done)) = two_rounds::<Brand, _>(&rt, fresh, &value) else {
         return Err(Fail::new("two passes"));
     };
-    assert_eq!(rt; done, [true, true, true, true]);
+    assert!(rt; done);
     // a meeting is no event
     assert_eq!(rt; closed.journal.len(), 6);
     assert_eq!(rt; closed.counts.inserts, 2);
