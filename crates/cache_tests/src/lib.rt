@@ -1,6 +1,5 @@
 //! Tests of the cache over words: its calls, counters, entries and iterators, its statistics, and
-//! the marks of journals that are played on it, each against the plain cache; and of the cache that
-//! threads share.
+//! the marks of journals that are played on it, each against the plain cache.
 #![tactic(auto)]
 
 #[cfg(test)]
@@ -10,23 +9,15 @@ mod both;
 #[cfg(test)]
 mod calls;
 #[cfg(test)]
-mod closing;
-#[cfg(test)]
-mod copies;
-#[cfg(test)]
 mod counting;
 #[cfg(test)]
 mod draws;
-#[cfg(test)]
-mod dropped_copy;
 #[cfg(test)]
 mod held;
 #[cfg(test)]
 mod info_draws;
 #[cfg(test)]
 mod info_small;
-#[cfg(test)]
-mod infos;
 #[cfg(test)]
 mod iterators;
 #[cfg(test)]
@@ -46,32 +37,18 @@ mod mark_requests;
 #[cfg(test)]
 mod marks;
 #[cfg(test)]
-mod meeting;
-#[cfg(test)]
 mod pair;
 #[cfg(test)]
 mod plainly;
 #[cfg(test)]
 mod readme;
 #[cfg(test)]
-mod rounds;
-#[cfg(test)]
-mod shared_iterators;
-#[cfg(test)]
-mod shared_readme;
-#[cfg(test)]
 mod small;
-#[cfg(test)]
-mod steps;
 #[cfg(test)]
 mod storing;
 #[cfg(test)]
 mod telling;
 #[cfg(test)]
-mod texts;
-#[cfg(test)]
 mod values;
 #[cfg(test)]
 mod windows;
-#[cfg(test)]
-mod works;

@@ -1,4 +1,4 @@
-use Rattle.cache_tests.proofs.shared_readme.two_threads_share_a_cache.Given as goal
+use Rattle.shared_tests.proofs.readme.two_threads_share_a_cache.Given as goal
 
 -- the name of the cache that was opened
 abbrev pub ghosts-both_work : goal.ghosts-both_work

@@ -1,4 +1,4 @@
-use Rattle.cache_tests.proofs.meeting.meet.Given as goal
+use Rattle.shared_tests.proofs.meeting.meet.Given as goal
 
 -- the name of the cache that was opened
 abbrev pub ghosts-two_at_once : goal.ghosts-two_at_once

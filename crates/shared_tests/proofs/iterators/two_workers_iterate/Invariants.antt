@@ -1,4 +1,4 @@
-use Rattle.cache_tests.proofs.shared_iterators.two_workers_iterate.Given as goal
+use Rattle.shared_tests.proofs.iterators.two_workers_iterate.Given as goal
 
 -- the name of the cache that was opened
 abbrev pub ghosts-iterate : goal.ghosts-iterate

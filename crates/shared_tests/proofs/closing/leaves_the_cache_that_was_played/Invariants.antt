@@ -1,4 +1,4 @@
-use Rattle.cache_tests.proofs.closing.leaves_the_cache_that_was_played.Given as goal
+use Rattle.shared_tests.proofs.closing.leaves_the_cache_that_was_played.Given as goal
 
 -- the name of the cache that was opened
 abbrev pub ghosts-plays : goal.ghosts-plays

@@ -1,4 +1,4 @@
-use Rattle.cache_tests.proofs.shared_iterators.a_copy_waits_while_its_row_is_deleted.Given as goal
+use Rattle.shared_tests.proofs.iterators.a_copy_waits_while_its_row_is_deleted.Given as goal
 
 -- the name of the cache that was opened
 abbrev pub ghosts-wait : goal.ghosts-wait

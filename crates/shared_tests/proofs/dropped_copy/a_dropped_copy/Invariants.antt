@@ -1,4 +1,4 @@
-use Rattle.cache_tests.proofs.dropped_copy.a_dropped_copy.Given as goal
+use Rattle.shared_tests.proofs.dropped_copy.a_dropped_copy.Given as goal
 
 -- the name of the cache that was opened
 abbrev pub ghosts-fills : goal.ghosts-fills

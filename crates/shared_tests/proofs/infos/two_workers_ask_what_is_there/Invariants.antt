@@ -1,4 +1,4 @@
-use Rattle.cache_tests.proofs.infos.two_workers_ask_what_is_there.Given as goal
+use Rattle.shared_tests.proofs.infos.two_workers_ask_what_is_there.Given as goal
 
 -- the name of the cache that was opened
 abbrev pub ghosts-tells : goal.ghosts-tells

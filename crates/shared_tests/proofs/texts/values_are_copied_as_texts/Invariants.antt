@@ -1,4 +1,4 @@
-use Rattle.cache_tests.proofs.texts.values_are_copied_as_texts.Given as goal
+use Rattle.shared_tests.proofs.texts.values_are_copied_as_texts.Given as goal
 
 -- the name of the cache that was opened
 abbrev pub ghosts-printed : goal.ghosts-printed

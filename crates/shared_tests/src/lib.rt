@@ -1,0 +1,26 @@
+//! Tests of `shared_cache`, over what it makes public: workers that meet, what they copy and are
+//! answered, iterators, and what is left in the end.
+#![tactic(auto)]
+
+#[cfg(test)]
+mod closing;
+#[cfg(test)]
+mod copies;
+#[cfg(test)]
+mod dropped_copy;
+#[cfg(test)]
+mod infos;
+#[cfg(test)]
+mod iterators;
+#[cfg(test)]
+mod meeting;
+#[cfg(test)]
+mod readme;
+#[cfg(test)]
+mod rounds;
+#[cfg(test)]
+mod steps;
+#[cfg(test)]
+mod texts;
+#[cfg(test)]
+mod works;
