@@ -2,7 +2,8 @@
 # Compiles the programs of this folder over the library for C, runs each in bounded time, and judges what it prints:
 # `test` makes each call, with each null too, `reads` looks up by many and counts later, `forked` has eight processes
 # that count to a million and 300 that are killed, `copies` reads outside of the lock while others store, `deaths` kills
-# one after instruction after instruction, `locks` the same at the lock alone, `full` fills 2 GB of words and reads them
+# one after instruction after instruction, `locks` the same at the lock alone, `lanes_model`
+# goes through all interleavings of two readers and a writer, and finds each of the faults that it has, `full` fills 2 GB of words and reads them
 # back, and `memory` looks at what calls do with memory. The last line is 'N passed, N failed'; what this machine or this
 # library can't do is skipped, and a line says so.
 #
@@ -57,6 +58,7 @@ done
 cc "${flags[@]}" "$here/reads.c" "$library" -o "$scratch/reads"
 # It has an allocator of its own.
 cc "${flags[@]}" "$here/memory.c" "$library" -o "$scratch/memory"
+cc "${flags[@]}" "$here/lanes_model.c" -o "$scratch/lanes_model"
 # No step is the loader's.
 cc "${flags[@]}" "$here/locks.c" -lpthread -Wl,-z,now -o "$scratch/locks"
 pass 'each program is compiled without a warning'
@@ -76,6 +78,16 @@ run 300 'forked 125000 300' '8 children counted to 1000000 of 1000000' '300 kill
 run 120 'copies 300' '[1-9][0-9]* copies were whole, .*, 0 were torn'
 run 300 deaths 'deaths in a store: .*; 0 wrong' 'deaths in making anew: 0 .*, 0 .*; 0 wrong' \
     'deaths in a copy: .*; 0 wrong'
+run 120 lanes_model 'no process dies, .*: as it should be' 'each process may die .*: as it should be'
+for fault in {1..9}; do
+    status=0
+    timeout -s KILL 120 "$scratch/lanes_model" "$fault" >"$scratch/printed" || status=$?
+    if [ "$status" = 1 ]; then
+        pass "lanes_model $fault: $(sed -n '/as it should be/!s/.*: //p' "$scratch/printed" | head -n 1)"
+    else
+        fail "lanes_model: the fault $fault is not found"
+    fi
+done
 if [ "${1:-}" = --quick ]; then
     skip 'locks: --quick'
 else
