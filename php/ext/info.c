@@ -35,11 +35,10 @@ static void tell_double(zval *told, int name, double value)
 
 void apcu_rows_start(apcu_rows *list, size_t room, size_t size)
 {
-	/* The library wants memory that was written before. */
-	list->rows = ecalloc(room, sizeof *list->rows);
+	list->rows = safe_emalloc(room, sizeof *list->rows, 0);
 	list->room = room;
 	list->count = 0;
-	list->keys = ecalloc(size, 1);
+	list->keys = emalloc(size);
 	list->size = size;
 	list->used = 0;
 }
@@ -56,16 +55,17 @@ bool apcu_rows_add(apcu_rows *list, uint32_t slot)
 	size_t used = list->used;
 
 	/* As many as there is room for may be not all. */
-	if (count == list->room - list->count) {
+	list->lacks_keys = count != list->room - list->count;
+	if (!list->lacks_keys) {
 		return false;
 	}
 	for (uint64_t i = 0; i < count; i++) {
 		const cache_row *row = &list->rows[list->count + i];
 
-		if (row->key_len > list->size - used
-				|| !cache_copy(apcu_shm->cache, row->key_place, (uint8_t *) list->keys + used, row->key_len)) {
+		if (row->key_len > list->size - used) {
 			return false;
 		}
+		memcpy(list->keys + used, apcu_shm->words + row->key_place, row->key_len);
 		used += row->key_len;
 	}
 	list->count += count;
@@ -75,12 +75,13 @@ bool apcu_rows_add(apcu_rows *list, uint32_t slot)
 
 void apcu_rows_grow(apcu_rows *list)
 {
+	if (list->lacks_keys) {
+		list->keys = safe_erealloc(list->keys, list->size, 2, 0);
+		list->size *= 2;
+		return;
+	}
 	list->rows = safe_erealloc(list->rows, list->room, 2 * sizeof *list->rows, 0);
-	memset(list->rows + list->room, 0, list->room * sizeof *list->rows);
 	list->room *= 2;
-	list->keys = safe_erealloc(list->keys, list->size, 2, 0);
-	memset(list->keys + list->size, 0, list->size);
-	list->size *= 2;
 }
 
 /* All rows of the cache at one moment, and the bytes of their keys one after another. */

@@ -203,6 +203,7 @@ typedef struct {
 	size_t count, room;
 	char *keys;
 	size_t used, size;
+	bool lacks_keys; /* that there was no room for, and not rows */
 } apcu_rows;
 
 void apcu_rows_start(apcu_rows *list, size_t room, size_t size);
