@@ -2,15 +2,15 @@
 # Compiles the programs of this folder over the library for C, runs each in bounded time, and judges what it prints:
 # `test` makes each call, with each null too, `reads` looks up by many and counts later, `forked` has eight processes
 # that count to a million and 300 that are killed, `copies` reads outside of the lock while others store, `deaths` kills
-# one after instruction after instruction, `locks` the same at the lock alone, `lanes_model`
-# goes through all interleavings of two readers and a writer, and finds each of the faults that it has, `full` fills 2 GB of words and reads them
-# back, and `memory` looks at what calls do with memory. The last line is 'N passed, N failed'; what this machine or this
-# library can't do is skipped, and a line says so.
+# one after instruction after instruction, `locks` the same at the lock alone, `lanes` the same of reads in lanes,
+# `lanes_model` goes through all interleavings of two readers and a writer, and finds each of the faults that it has,
+# `full` fills 2 GB of words and reads them back, and `memory` looks at what calls do with memory. The last line is
+# 'N passed, N failed'; what this machine or this library can't do is skipped, and a line says so.
 #
 #   capi/run.sh [--quick]
 #
-# --quick leaves out the 2 GB and `locks`. CACHE_C_LIB=FILE in the environment is a library to link in place of the
-# engine's assembly text.
+# --quick leaves out the 2 GB, `locks` and `lanes`. CACHE_C_LIB=FILE in the environment is a library to link in place of
+# the engine's assembly text.
 set -eu -o pipefail
 here=$(cd "$(dirname "${BASH_SOURCE[0]}")" && pwd)
 case "$# ${1:-}" in
@@ -61,6 +61,7 @@ cc "${flags[@]}" "$here/memory.c" "$library" -o "$scratch/memory"
 cc "${flags[@]}" "$here/lanes_model.c" -o "$scratch/lanes_model"
 # No step is the loader's.
 cc "${flags[@]}" "$here/locks.c" -lpthread -Wl,-z,now -o "$scratch/locks"
+cc "${flags[@]}" "$here/lanes.c" "$here/shared_cache.c" "$library" -lpthread -Wl,-z,now -o "$scratch/lanes"
 pass 'each program is compiled without a warning'
 if command -v c++ >/dev/null; then
     c++ -std=c++11 "${flags[@]:1}" -fsyntax-only -x c++ - <<<"#include \"$here/cache_c.h\""
@@ -89,9 +90,10 @@ for fault in {1..9}; do
     fi
 done
 if [ "${1:-}" = --quick ]; then
-    skip 'locks: --quick'
+    skip 'locks, lanes: --quick'
 else
     run 900 locks 'as it should be'
+    run 600 lanes 'fetching: .*; 0 wrong' 'counting: .*; 0 wrong' 'as it should be'
 fi
 run 120 'full 16777216' 'all read back, .*'
 # Words and index take 2.4 GB.
