@@ -108,8 +108,9 @@ typedef struct {
     uint64_t hash;   /* the key's, for cache_ask_hashed; cache_ask computes it */
 } cache_request;
 
-/* The hash of a key, as PHP computes it: zend_string_hash_val of that string. It is 0 if the pointer
- * is null or the key has 4 GB or more. */
+/* The hash of a key: 5381, for each byte times 33 plus the byte, and the highest bit set. PHP's hash
+ * of a string (zend_string_hash_val) is the same if all its bytes are ASCII; of other bytes PHP adds
+ * negative numbers where char has a sign. It is 0 if the pointer is null or the key has 4 GB or more. */
 static inline uint64_t cache_hash(const uint8_t *key, size_t key_len);
 
 /* The second `t` is of a clock that all callers share; the library has none. A row expires by the

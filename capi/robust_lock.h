@@ -114,13 +114,14 @@ static inline void robust_in_order(void) { atomic_signal_fence(memory_order_seq_
 static inline bool robust_is_free(uint32_t word) { return (word & FUTEX_TID_MASK) == 0; }
 
 /* Takes the lock where its word still is this free one: EBUSY where it is not. Who waited for it
- * adds FUTEX_WAITERS, since others may wait beside it. */
+ * adds FUTEX_WAITERS, since others may wait beside it. Lanes are read after it (lanes.h), so it is
+ * sequentially consistent. */
 static inline int robust_take_free(robust_lock *lock, uint32_t free, uint32_t id,
                                    uint32_t waiters) {
     uint32_t seen = free;
     if (!atomic_compare_exchange_strong_explicit(&lock->word, &seen,
                                                  id | (free & FUTEX_WAITERS) | waiters,
-                                                 memory_order_acquire, memory_order_relaxed))
+                                                 memory_order_seq_cst, memory_order_relaxed))
         return EBUSY;
     return free & FUTEX_OWNER_DIED ? EOWNERDEAD : 0;
 }

@@ -2,14 +2,15 @@
 # Compiles the programs of this folder over the library for C, runs each in bounded time, and judges what it prints:
 # `test` makes each call, with each null too, `reads` looks up by many and counts later, `forked` has eight processes
 # that count to a million and 300 that are killed, `copies` reads outside of the lock while others store, `deaths` kills
-# one after instruction after instruction, `locks` the same at the lock alone, `full` fills 2 GB of words and reads them
-# back, and `memory` looks at what calls do with memory. The last line is 'N passed, N failed'; what this machine or this
-# library can't do is skipped, and a line says so.
+# one after instruction after instruction, `locks` the same at the lock alone, `lanes` the same of reads in lanes,
+# `lanes_model` goes through all interleavings of two readers and a writer, and finds each of the faults that it has,
+# `full` fills 2 GB of words and reads them back, and `memory` looks at what calls do with memory. The last line is
+# 'N passed, N failed'; what this machine or this library can't do is skipped, and a line says so.
 #
 #   capi/run.sh [--quick]
 #
-# --quick leaves out the 2 GB and `locks`. CACHE_C_LIB=FILE in the environment is a library to link in place of the
-# engine's assembly text.
+# --quick leaves out the 2 GB, `locks` and `lanes`. CACHE_C_LIB=FILE in the environment is a library to link in place of
+# the engine's assembly text.
 set -eu -o pipefail
 here=$(cd "$(dirname "${BASH_SOURCE[0]}")" && pwd)
 case "$# ${1:-}" in
@@ -57,8 +58,10 @@ done
 cc "${flags[@]}" "$here/reads.c" "$library" -o "$scratch/reads"
 # It has an allocator of its own.
 cc "${flags[@]}" "$here/memory.c" "$library" -o "$scratch/memory"
+cc "${flags[@]}" "$here/lanes_model.c" -o "$scratch/lanes_model"
 # No step is the loader's.
 cc "${flags[@]}" "$here/locks.c" -lpthread -Wl,-z,now -o "$scratch/locks"
+cc "${flags[@]}" "$here/lanes.c" "$here/shared_cache.c" "$library" -lpthread -Wl,-z,now -o "$scratch/lanes"
 pass 'each program is compiled without a warning'
 if command -v c++ >/dev/null; then
     c++ -std=c++11 "${flags[@]:1}" -fsyntax-only -x c++ - <<<"#include \"$here/cache_c.h\""
@@ -76,10 +79,21 @@ run 300 'forked 125000 300' '8 children counted to 1000000 of 1000000' '300 kill
 run 120 'copies 300' '[1-9][0-9]* copies were whole, .*, 0 were torn'
 run 300 deaths 'deaths in a store: .*; 0 wrong' 'deaths in making anew: 0 .*, 0 .*; 0 wrong' \
     'deaths in a copy: .*; 0 wrong'
+run 120 lanes_model 'no process dies, .*: as it should be' 'each process may die .*: as it should be'
+for fault in {1..9}; do
+    status=0
+    timeout -s KILL 120 "$scratch/lanes_model" "$fault" >"$scratch/printed" || status=$?
+    if [ "$status" = 1 ]; then
+        pass "lanes_model $fault: $(sed -n '/as it should be/!s/.*: //p' "$scratch/printed" | head -n 1)"
+    else
+        fail "lanes_model: the fault $fault is not found"
+    fi
+done
 if [ "${1:-}" = --quick ]; then
-    skip 'locks: --quick'
+    skip 'locks, lanes: --quick'
 else
     run 900 locks 'as it should be'
+    run 600 lanes 'fetching: .*; 0 wrong' 'counting: .*; 0 wrong' 'as it should be'
 fi
 run 120 'full 16777216' 'all read back, .*'
 # Words and index take 2.4 GB.

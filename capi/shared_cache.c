@@ -1,7 +1,7 @@
 /* See shared_cache.h. */
 #define _GNU_SOURCE
 #include "shared_cache.h"
-#include "robust_lock.h"
+#include "lanes.h"
 #include "seats.h"
 
 #include <errno.h>
@@ -21,8 +21,10 @@ struct head {
     robust_lock lock;
     atomic_bool busy; /* a call is under way: the words may be those of half a change */
     shared_deaths deaths;
-    uint64_t *words; /* those of the cache */
+    uint64_t *words;        /* those of the cache */
+    struct cache_view view; /* of the cache as it is, for those that read in a lane */
     seats seats;
+    lanes lanes;
 };
 
 /* The same in every process, since it is set before the first fork. */
@@ -32,8 +34,9 @@ static cache_shape shape;
 static uint8_t *handle;
 static unsigned char *room, *end;
 
-/* This process's own: whether cache_new runs, and what is left of the room for it. */
-static bool is_making;
+/* This process's own: whether cache_new runs, whether the room had a cache before, and what is left
+ * of the room. */
+static bool is_making, is_used;
 static unsigned char *next;
 
 static size_t whole_lines(size_t n) { return (n + LINE - 1) / LINE * LINE; }
@@ -56,8 +59,11 @@ cache_tried rattle_alloc(size_t n, size_t align) {
     if (n > (size_t)(end - next))
         return got(NULL);
     void *at = next;
-    if (!head->words && n == 8 * (size_t)shape.words)
+    if (!head->words && n == 8 * (size_t)shape.words) {
         head->words = at;
+        if (is_used)
+            lanes_clear_words(at, n);
+    }
     next += whole_lines(n); /* what is left of the room is whole lines, too */
     return got(at);
 }
@@ -83,11 +89,14 @@ int rattle_errno(void) { return errno; }
  * for it: one that is killed in here leaves nothing that the next one needs. */
 static uint32_t make(void) {
     seats_clear(&head->seats);
+    lanes_forget(&head->lanes);
     head->words = NULL;
     next = room;
     is_making = true;
     uint32_t made = cache_new(&shape, handle);
     is_making = false;
+    if (made == CACHE_MADE)
+        cache_get_view(handle, &head->view);
     return made;
 }
 
@@ -110,8 +119,11 @@ uint32_t shared_start(const cache_shape *wanted) {
     handle = (uint8_t *)map + whole_lines(sizeof *head);
     room = (unsigned char *)map + before;
     end = (unsigned char *)map + size;
-    bool has_locks = robust_lock_make(&head->lock, true) && seats_make(&head->seats, &head->lock);
-    uint32_t made = has_locks ? make() : CACHE_NO_ROOM;
+    uint32_t made = CACHE_NO_ROOM;
+    if (robust_lock_make(&head->lock, true) && seats_make(&head->seats, &head->lock)) {
+        lanes_make(&head->lanes, &head->lock);
+        made = make();
+    }
     if (made != CACHE_MADE)
         shared_end();
     return made;
@@ -130,13 +142,16 @@ static void set_busy(bool busy) {
     atomic_signal_fence(memory_order_seq_cst);
 }
 
-uint8_t *shared_enter(void) {
+/* The lock, a whole cache, and no use that waits. */
+static void take_lock(void) {
     int locked = robust_lock_take(&head->lock);
+    bool has_uses = lanes_wait(&head->lanes);
     if (locked == EOWNERDEAD) {
         /* The lock is ours. Where no call was under way its cache stands there whole. Where one
          * was, the flag stays until a new cache is made. Whoever dies in here leaves the lock to
          * the next one as it found it, with the same news. */
         bool is_inside = atomic_load_explicit(&head->busy, memory_order_relaxed);
+        is_used = true;
         if (is_inside && make() != CACHE_MADE)
             abort();
         if (is_inside) {
@@ -144,11 +159,21 @@ uint8_t *shared_enter(void) {
         } else {
             head->deaths.outside++;
             seats_settle(&head->seats);
+            lanes_settle(&head->lanes);
+            cache_get_view(handle, &head->view);
         }
         set_busy(false);
     } else if (locked != 0) {
         abort(); /* it is no lock: somebody wrote over it */
     }
+    if (has_uses) {
+        lanes_count(&head->lanes, handle);
+        cache_get_view(handle, &head->view);
+    }
+}
+
+uint8_t *shared_enter(void) {
+    take_lock();
     set_busy(true);
     if (head->seats.taken != 0)
         seats_sweep(&head->seats, handle);
@@ -156,8 +181,69 @@ uint8_t *shared_enter(void) {
 }
 
 void shared_leave(void) {
+    cache_get_view(handle, &head->view);
     set_busy(false);
     robust_lock_give(&head->lock);
+}
+
+/* A read that is under way: in a lane, or with the lock, as lane 0. */
+struct reading {
+    lane *mine;
+    bool has_lock;
+};
+
+static struct reading begin_reading(uint64_t t, bool may_note) {
+    struct reading one = {.mine = lanes_enter(&head->lanes, &head->lock)};
+    if (one.mine && (!may_note || lane_may_note(&head->lanes, one.mine, t)))
+        return one;
+    if (one.mine)
+        lane_release(one.mine);
+    take_lock();
+    return (struct reading){.mine = &head->lanes.lane[0], .has_lock = true};
+}
+
+/* A hit of a row, or a miss for 0. */
+static void note(const struct reading *one, uint32_t row, uint64_t t) {
+    if (!one->has_lock || lanes_set_second(&head->lanes, t)) {
+        lane_note(one->mine, row);
+    } else {
+        lanes_count_now(&head->lanes, handle, row, t);
+        cache_get_view(handle, &head->view);
+    }
+}
+
+static void end_reading(const struct reading *one) {
+    if (one->has_lock)
+        robust_lock_give(&head->lock);
+    else
+        lane_release(one->mine);
+}
+
+static void find(const uint8_t *key, size_t len, uint64_t t, struct cache_found *found) {
+    cache_find_shared(&head->view, head->words, head->view.len, key, len, cache_hash(key, len), t,
+                      found);
+}
+
+cache_answer shared_fetch(const uint8_t *key, size_t key_len, uint64_t t, uint8_t *out,
+                          size_t most) {
+    struct cache_found found;
+    struct reading one = begin_reading(t, true);
+    find(key, key_len, t, &found);
+    if (found.kind != CACHE_STR || found.len <= most) {
+        if (found.kind == CACHE_STR)
+            memcpy(out, head->words + found.place, found.len);
+        note(&one, found.row, t);
+    }
+    end_reading(&one);
+    return (cache_answer){found.kind, found.place, found.number, found.len};
+}
+
+bool shared_exists(const uint8_t *key, size_t key_len, uint64_t t) {
+    struct cache_found found;
+    struct reading one = begin_reading(t, false);
+    find(key, key_len, t, &found);
+    end_reading(&one);
+    return found.row != 0;
 }
 
 cache_answer shared_hold(const uint8_t *key, size_t key_len, uint64_t t, shared_text *text) {

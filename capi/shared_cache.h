@@ -19,6 +19,14 @@ void shared_end(void);
 uint8_t *shared_enter(void);
 void shared_leave(void);
 
+/* Fetches as CACHE_LOOK does, and copies a string's bytes if there are at most `most`; a longer one is no use of
+ * its row, and the answer says how long it is. It needs no shared_enter. Calls of this function and the next one
+ * run at the same time in any number of processes. */
+cache_answer shared_fetch(const uint8_t *key, size_t key_len, uint64_t t, uint8_t *out, size_t most);
+
+/* The same for CACHE_EXISTS: whether a live row has the key. */
+bool shared_exists(const uint8_t *key, size_t key_len, uint64_t t);
+
 /* A string of the cache that is read without the lock. */
 typedef struct {
     const uint8_t *bytes; /* null: nothing is held, and the answer's bytes are for cache_copy */

@@ -182,11 +182,22 @@ static void fill(size_t all) {
         }
 }
 
-/* Makes and fills both caches; false where there is none of ours. */
+/* The first prime from a number on. */
+static uint32_t prime_from(uint32_t number) {
+    for (uint32_t divisor = 2; divisor <= number / divisor; divisor++)
+        if (number % divisor == 0) {
+            number++;
+            divisor = 1;
+        }
+    return number;
+}
+
+/* Makes and fills both caches; false where there is none of ours. APCu takes a prime number of
+ * slots, and ours is even. */
 static bool start(size_t all) {
     cache_shape shape = {.words = 1 << 24, .slots = 4096, .segments = 1};
     if (all > 4096)
-        shape.slots = (uint32_t)all;
+        shape.slots = 2 * prime_from((uint32_t)(all / 2));
     if (shared_start(&shape) != CACHE_MADE) {
         zend_throw_error(NULL, "there is no cache");
         return false;

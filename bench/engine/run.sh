@@ -4,8 +4,8 @@
 # loop is in any figure. Ours is called with a robust lock of all processes round each call (`locked`) and with none
 # (`alone`); APCu's takes its own lock. Keys have 10 bytes, and their hash is computed in each call. Of ten rows four have
 # a text of 8 bytes, a text of 100, and two integers, and six a truth value; 100 rows (1,000 beside 100,000) hold 10 KB
-# and eight hold 1 MB. A fetched text is copied into a new string of PHP's on both sides. Slots are the usual 4,096, or as
-# many as rows where there are more. Each figure is the least of all batches of 10,000 calls or less, without what the
+# and eight hold 1 MB. A fetched text is copied into a new string of PHP's on both sides. Slots are the usual 4,096; if there
+# are more rows, about as many as rows: twice a prime, and APCu's own prime. Each figure is the least of all batches of 10,000 calls or less, without what the
 # loop takes. Then some calls that 1 to 8 processes make at once: nanoseconds by the clock for each call of all. Ratios
 # stand first: ours with the lock / APCu's, and ours alone / APCu's. A round is kept only where the machine is quiet
 # (../quiet.sh).

@@ -2,7 +2,8 @@
 
 // Times of PHP's calls of a cache, in one process: php calls.php KEY_BYTES ROWS names|times
 // prints the calls' names, one a line, or their times, nanoseconds of the processor each, in one line: the least of so
-// many rounds over keys in no order, without the loop's own time.
+// many rounds without the loop's own time. Keys are called in an order of their own, which is not the one in which their
+// rows were stored, so that no row lies behind the one of the call before.
 
 declare(strict_types=1);
 
@@ -18,6 +19,12 @@ function keys_of(string $family, int $bytes, int $count): array
         $keys[] = str_pad("$family$i", $bytes, ':', STR_PAD_RIGHT);
     }
     mt_srand(7);
+    shuffle($keys);
+    return $keys;
+}
+
+function in_no_order(array $keys): array
+{
     shuffle($keys);
     return $keys;
 }
@@ -50,6 +57,9 @@ $integers = keys_of('i', $key_bytes, $rows);
 $texts = keys_of('s', $key_bytes, $rows);
 $arrays = keys_of('a', $key_bytes, $rows);
 $absent = keys_of('q', $key_bytes, $rows);
+$mixed = keys_of('m', $key_bytes, $rows);
+// The texts of 64 sizes, from 0 to 504 bytes, in no order.
+$sizes = array_map(fn (int $i): string => str_repeat('w', 8 * ($i * 7 % 64)), range(0, 63));
 $many = 20000;
 
 // Each loop takes its keys one after another.
@@ -70,6 +80,7 @@ $all = [
     'store over, an integer' => [$integers, $many, function ($n) use ($integers, $rows) { for ($i = 0; $i < $n; $i++) { apcu_store($integers[$i % $rows], $i); } }],
     'store over, 100 bytes' => [$texts, $many, function ($n) use ($texts, $rows, $text) { for ($i = 0; $i < $n; $i++) { apcu_store($texts[$i % $rows], $text); } }],
     'store over, a small array' => [$arrays, $many, function ($n) use ($arrays, $rows, $small) { for ($i = 0; $i < $n; $i++) { apcu_store($arrays[$i % $rows], $small); } }],
+    'store over, one of 64 sizes' => [$mixed, $many, function ($n) use ($mixed, $rows, $sizes) { static $turn = 0; $turn += 11; for ($i = 0; $i < $n; $i++) { apcu_store($mixed[$i % $rows], $sizes[($i * 37 + $turn) % 64]); } }],
     'store over, 10 KB' => [null, 2000, function ($n) use ($page) { for ($i = 0; $i < $n; $i++) { apcu_store('page', $page); } }],
     'store over, 1 MB' => [null, 50, function ($n) use ($large) { for ($i = 0; $i < $n; $i++) { apcu_store('large', $large); } }],
     'store over, 1,000 integers' => [null, 300, function ($n) use ($list) { for ($i = 0; $i < $n; $i++) { apcu_store('list', $list); } }],
@@ -84,8 +95,10 @@ if ($what === 'names') {
     exit(0);
 }
 
-foreach ($integers as $i => $key) {
-    if (!apcu_store($key, $i) || !apcu_store($texts[$i], $text) || !apcu_store($arrays[$i], $small)) {
+$filled = array_map('in_no_order', [$integers, $texts, $arrays, $mixed]);
+for ($i = 0; $i < $rows; $i++) {
+    if (!apcu_store($filled[0][$i], $i) || !apcu_store($filled[1][$i], $text) || !apcu_store($filled[2][$i], $small)
+            || !apcu_store($filled[3][$i], $sizes[$i % 64])) {
         fwrite(STDERR, "the cache is too small\n");
         exit(1);
     }

@@ -3,12 +3,12 @@
 #include "ext/standard/info.h"
 
 /* The names of what is told of a row. They stay for as long as the module does, so no call makes them. */
-enum { HITS, NUM_HITS, ACCESS_TIME, MTIME, CREATION_TIME, DELETION_TIME, TTL, REFS, REF_COUNT, MEM_SIZE, NAMES };
+enum { INFO, HITS, NUM_HITS, ACCESS_TIME, MTIME, CREATION_TIME, DELETION_TIME, TTL, REFS, REF_COUNT, MEM_SIZE, NAMES };
 static zend_string *names[NAMES];
 
 void apcu_info_start(void)
 {
-	static const char *const texts[NAMES] = {"hits", "num_hits", "access_time", "mtime", "creation_time",
+	static const char *const texts[NAMES] = {"info", "hits", "num_hits", "access_time", "mtime", "creation_time",
 		"deletion_time", "ttl", "refs", "ref_count", "mem_size"};
 
 	for (int i = 0; i < NAMES; i++) {
@@ -35,11 +35,10 @@ static void tell_double(zval *told, int name, double value)
 
 void apcu_rows_start(apcu_rows *list, size_t room, size_t size)
 {
-	/* The library wants memory that was written before. */
-	list->rows = ecalloc(room, sizeof *list->rows);
+	list->rows = safe_emalloc(room, sizeof *list->rows, 0);
 	list->room = room;
 	list->count = 0;
-	list->keys = ecalloc(size, 1);
+	list->keys = emalloc(size);
 	list->size = size;
 	list->used = 0;
 }
@@ -56,16 +55,17 @@ bool apcu_rows_add(apcu_rows *list, uint32_t slot)
 	size_t used = list->used;
 
 	/* As many as there is room for may be not all. */
-	if (count == list->room - list->count) {
+	list->lacks_keys = count != list->room - list->count;
+	if (!list->lacks_keys) {
 		return false;
 	}
 	for (uint64_t i = 0; i < count; i++) {
 		const cache_row *row = &list->rows[list->count + i];
 
-		if (row->key_len > list->size - used
-				|| !cache_copy(apcu_shm->cache, row->key_place, (uint8_t *) list->keys + used, row->key_len)) {
+		if (row->key_len > list->size - used) {
 			return false;
 		}
+		memcpy(list->keys + used, apcu_shm->words + row->key_place, row->key_len);
 		used += row->key_len;
 	}
 	list->count += count;
@@ -75,60 +75,103 @@ bool apcu_rows_add(apcu_rows *list, uint32_t slot)
 
 void apcu_rows_grow(apcu_rows *list)
 {
+	if (list->lacks_keys) {
+		list->keys = safe_erealloc(list->keys, list->size, 2, 0);
+		list->size *= 2;
+		return;
+	}
 	list->rows = safe_erealloc(list->rows, list->room, 2 * sizeof *list->rows, 0);
-	memset(list->rows + list->room, 0, list->room * sizeof *list->rows);
 	list->room *= 2;
-	list->keys = safe_erealloc(list->keys, list->size, 2, 0);
-	memset(list->keys + list->size, 0, list->size);
-	list->size *= 2;
 }
 
-/* All rows of the cache at one moment, and its counts. False where there is no cache. */
-static bool list_all(apcu_rows *list, cache_counts *counts)
-{
-	bool is_whole = false;
+/* All rows of the cache at one moment, and the bytes of their keys one after another. */
+typedef struct {
+	cache_row *rows;
+	size_t count;
+	char *keys; /* by malloc: their size is known under the lock alone */
+} all_rows;
 
-	if (!apcu_lock()) {
+/* Under the lock, with room for all rows. False if there is no memory for their keys. */
+static bool copy_all(all_rows *all, size_t room)
+{
+	uint32_t slots = apcu_shm->shape.slots;
+	size_t size = 0;
+
+	/* Behind the slots are the rows that were removed while a process copies them. */
+	for (uint32_t slot = 0; slot <= slots; slot++) {
+		all->count += cache_list_rows(apcu_shm->cache, slot, 0, all->rows + all->count, room - all->count);
+	}
+	for (size_t i = 0; i < all->count; i++) {
+		size += all->rows[i].key_len;
+	}
+
+	char *key = all->keys = malloc(size > 0 ? size : 1);
+	if (!key) {
 		return false;
 	}
-	*counts = cache_get_counts(apcu_shm->cache);
-	apcu_unlock();
+	for (size_t i = 0; i < all->count; i++) {
+		const cache_row *row = &all->rows[i];
 
-	apcu_rows_start(list, (size_t) counts->entries + 64, (size_t) counts->entries * 32 + 1024);
-	for (;;) {
-		list->count = list->used = 0;
-		if (!apcu_lock()) {
-			apcu_rows_free(list);
-			return false;
-		}
-		*counts = cache_get_counts(apcu_shm->cache);
-		is_whole = true;
-		/* Behind the slots stand the rows that were removed while somebody copies them. */
-		for (uint32_t slot = 0; slot <= apcu_shm->shape.slots && is_whole; slot++) {
-			is_whole = apcu_rows_add(list, slot);
-		}
-		apcu_unlock();
-		if (is_whole) {
-			return true;
-		}
-		apcu_rows_grow(list);
+		memcpy(key, apcu_shm->words + row->key_place, row->key_len);
+		key += row->key_len;
 	}
+	return true;
 }
 
-static void add_rows(zval *info, const apcu_rows *list)
+static void free_all(all_rows *all)
 {
-	zval rows, removed, slots;
-	const char *key = list->keys;
+	if (all->rows) {
+		efree(all->rows);
+	}
+	free(all->keys);
+}
 
-	array_init_size(&rows, (uint32_t) list->count);
+/* Lists all rows, and the cache's counts at the same moment. False if there is no cache. */
+static bool list_all(all_rows *all, cache_counts *counts)
+{
+	size_t room = 0;
+
+	*all = (all_rows) {0};
+	while (apcu_lock()) {
+		bool is_copied = false;
+
+		*counts = cache_get_counts(apcu_shm->cache);
+		size_t most = (size_t) counts->entries + CACHE_SEATS;
+		bool is_room = most <= room;
+		if (is_room) {
+			is_copied = copy_all(all, room);
+		}
+		apcu_unlock();
+		if (is_copied) {
+			return true;
+		}
+		if (is_room) {
+			zend_error_noreturn(E_ERROR, "Out of memory (the keys of " ZEND_ULONG_FMT " rows)", (zend_ulong) all->count);
+		}
+		free_all(all);
+		/* More rows may be stored before the lock is taken again. The pages are written here, and not under the lock. */
+		room = most + most / 16;
+		all->rows = ecalloc(room, sizeof *all->rows);
+	}
+	free_all(all);
+	return false;
+}
+
+static void add_rows(zval *info, const all_rows *all)
+{
+	zval rows, removed, slots, *count = NULL;
+	const char *key = all->keys;
+
+	array_init_size(&rows, (uint32_t) all->count);
 	array_init(&removed);
 	array_init(&slots);
-	for (size_t i = 0; i < list->count; i++) {
-		const cache_row *row = &list->rows[i];
-		zval told, *count;
+	for (size_t i = 0; i < all->count; i++) {
+		const cache_row *row = &all->rows[i];
+		zval told, name;
 
 		array_init_size(&told, 9);
-		add_assoc_stringl(&told, "info", key, row->key_len);
+		ZVAL_STRINGL(&name, key, row->key_len);
+		zend_hash_add_new(Z_ARRVAL(told), names[INFO], &name);
 		tell_long(&told, TTL, row->ttl);
 		tell_double(&told, NUM_HITS, (double) row->hits);
 		tell_long(&told, MTIME, (zend_long) row->mtime);
@@ -144,11 +187,14 @@ static void add_rows(zval *info, const apcu_rows *list)
 		}
 		add_next_index_zval(&rows, &told);
 
-		count = zend_hash_index_find(Z_ARRVAL(slots), row->slot);
-		if (count) {
+		/* Rows of a slot are listed one after another. */
+		if (i > 0 && row->slot == row[-1].slot) {
 			Z_LVAL_P(count)++;
 		} else {
-			add_index_long(&slots, row->slot, 1);
+			zval one;
+
+			ZVAL_LONG(&one, 1);
+			count = zend_hash_index_add_new(Z_ARRVAL(slots), row->slot, &one);
 		}
 	}
 	add_assoc_zval(info, "cache_list", &rows);
@@ -177,7 +223,7 @@ PHP_FUNCTION(apcu_cache_info)
 	cache_counts counts;
 	cache_shape shape;
 	time_t start_time;
-	apcu_rows list;
+	all_rows all;
 
 	ZEND_PARSE_PARAMETERS_START(0, 1)
 		Z_PARAM_OPTIONAL
@@ -191,7 +237,7 @@ PHP_FUNCTION(apcu_cache_info)
 			apcu_unlock();
 		}
 	} else {
-		is_there = list_all(&list, &counts);
+		is_there = list_all(&all, &counts);
 	}
 	if (!is_there) {
 		php_error_docref(NULL, E_WARNING, "No APC info available.  Perhaps APC is not enabled? Check apc.enabled in your ini file");
@@ -212,8 +258,13 @@ PHP_FUNCTION(apcu_cache_info)
 	add_assoc_double(return_value, "mem_size", (double) counts.row_words * 8);
 	add_assoc_string(return_value, "memory_type", "mmap");
 	if (!is_limited) {
-		add_rows(return_value, &list);
-		apcu_rows_free(&list);
+		zend_try {
+			add_rows(return_value, &all);
+		} zend_catch {
+			free(all.keys);
+			zend_bailout();
+		} zend_end_try();
+		free_all(&all);
 	}
 	add_state(return_value);
 }

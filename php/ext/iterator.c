@@ -22,8 +22,12 @@ enum {
 #define ITER_ALL 0xffffffffL
 #define DEFAULT_CHUNK 100
 
-/* So many slots are looked at before others may have the lock. */
-#define SLOTS_AT_ONCE 1024
+/* The rows and slots that are listed before other processes may have the lock. */
+#define ROWS_AT_ONCE 1024
+#define SLOTS_AT_ONCE 8192
+
+/* Room for rows of a chunk, before it grows. */
+#define ROWS_AT_START 256
 
 typedef struct {
 	zend_string *key;
@@ -37,6 +41,7 @@ typedef struct {
 	zend_string *regex;  /* null: any key */
 	HashTable *keys;     /* null: any key */
 	uint32_t slot, end;  /* slots that are still to be looked at */
+	size_t listed, kept; /* rows of this walk, and those of them that matched */
 	apcu_item *items;    /* the chunk, and how far it was told */
 	size_t count, at;
 	bool has_totals;
@@ -112,18 +117,19 @@ static void free_object(zend_object *object)
 	zend_object_std_dtor(object);
 }
 
-/* Lists rows of some slots, from it->slot on, where no time is over. False where there is none left. */
-static bool list_some(apcu_iterator *it, apcu_rows *list)
+/* Lists whole slots from it->slot on, until there are `wanted` rows. False if there is no row left. */
+static bool list_some(apcu_iterator *it, apcu_rows *list, size_t wanted)
 {
 	while (it->slot < it->end) {
 		bool is_room = true;
+		uint32_t end = it->end - it->slot < SLOTS_AT_ONCE ? it->end : it->slot + SLOTS_AT_ONCE;
 
 		list->count = list->used = 0;
 		if (!apcu_lock()) {
 			it->slot = it->end;
 			return false;
 		}
-		for (uint32_t n = 0; n < SLOTS_AT_ONCE && it->slot < it->end; n++) {
+		while (it->slot < end && list->count < wanted) {
 			is_room = apcu_rows_add(list, it->slot);
 			if (!is_room) {
 				break;
@@ -288,6 +294,18 @@ static bool tell(apcu_item *item, zend_long format, cache_row row, const char *k
 	return true;
 }
 
+/* How many rows to list for so many that match: as many of them match as did before in this walk. What is listed in
+ * vain is listed again for the next chunk. */
+static size_t rows_for(const apcu_iterator *it, size_t matches)
+{
+	if (it->regex || it->keys) {
+		double each = (double) (it->listed + 1) / (double) (it->kept + 1);
+
+		matches = (size_t) ((double) matches * each) + 1;
+	}
+	return matches < ROWS_AT_ONCE ? matches : ROWS_AT_ONCE;
+}
+
 /* Keeps those rows of a list that live and match, up to the end of the slot in which the chunk is
  * full; how many they are. Slots behind that one are looked at again. */
 static size_t keep_matches(apcu_iterator *it, const search *s, apcu_rows *list, size_t wanted, time_t t)
@@ -302,11 +320,13 @@ static size_t keep_matches(apcu_iterator *it, const search *s, apcu_rows *list, 
 			it->slot = row->slot;
 			break;
 		}
+		it->listed++;
 		key += row->key_len;
 		if (lives(row, t) && matches(s, bytes, row->key_len)) {
 			memmove(list->keys + kept_key, bytes, row->key_len);
 			kept_key += row->key_len;
 			list->rows[kept++] = *row;
+			it->kept++;
 		}
 	}
 	return kept;
@@ -327,8 +347,8 @@ static bool fetch_chunk(apcu_iterator *it)
 	if (it->slot >= it->end) {
 		return it->at < it->count;
 	}
-	apcu_rows_start(&list, 256, 8192);
-	while (count <= it->chunk_size && list_some(it, &list)) {
+	apcu_rows_start(&list, ROWS_AT_START, 64 * ROWS_AT_START);
+	while (count <= it->chunk_size && list_some(it, &list, rows_for(it, it->chunk_size - count + 1))) {
 		/* Values may run PHP code, and that may search too: so all keys are matched before. */
 		if (!search_start(&s, it)) {
 			break;
@@ -367,8 +387,8 @@ static void add_totals(apcu_iterator *it)
 	if (!search_start(&s, it)) {
 		return;
 	}
-	apcu_rows_start(&list, 256, 8192);
-	while (list_some(&all, &list)) {
+	apcu_rows_start(&list, ROWS_AT_ONCE + ROWS_AT_START, 64 * ROWS_AT_ONCE);
+	while (list_some(&all, &list, ROWS_AT_ONCE)) {
 		const char *key = list.keys;
 
 		for (size_t i = 0; i < list.count; i++) {
@@ -437,6 +457,7 @@ ZEND_METHOD(APCUIterator, __construct)
 	it->format = format;
 	it->chunk_size = chunk_size == 0 ? DEFAULT_CHUNK : (size_t) chunk_size;
 	it->slot = 0;
+	it->listed = it->kept = 0;
 	/* No row is held here after it was removed. */
 	it->end = list == LIST_ACTIVE ? apcu_shm->shape.slots : 0;
 	it->has_totals = false;
@@ -477,6 +498,7 @@ ZEND_METHOD(APCUIterator, rewind)
 {
 	READY(it);
 	it->slot = 0;
+	it->listed = it->kept = 0;
 	fetch_chunk(it);
 }
 

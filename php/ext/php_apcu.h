@@ -113,6 +113,9 @@ static inline bool apcu_may_have_stamp(uint64_t len)
 /* The stamp of a value by its last bytes. No two stores of arrays or long strings have the same one; 0: there is none. */
 uint64_t apcu_stamp_of(const uint8_t tail[APCU_TAIL]);
 
+/* Whether the value of these bytes is made without PHP code: a string or a double. */
+bool apcu_is_plain(const char *bytes, size_t len);
+
 void apcu_serializers_start(int module_number);
 
 /* Looks for apc.serializer among those that were registered, until it is there. */
@@ -144,7 +147,7 @@ void apcu_kept_end_request(void);
 void apcu_kept_stop(void);
 
 /* The kept value of the row of this key, or null, by the last bytes of the row's value. It may be called while the
- * lock is held: it takes no memory. The value stays until the request ends. */
+ * lock or a lane is held: it takes no memory. The value stays until the request ends. */
 apcu_kept *apcu_kept_find(zend_string *key, const uint8_t tail[APCU_TAIL]);
 
 /* Outside of the lock: returns a kept value. */
@@ -203,6 +206,7 @@ typedef struct {
 	size_t count, room;
 	char *keys;
 	size_t used, size;
+	bool lacks_keys; /* that there was no room for, and not rows */
 } apcu_rows;
 
 void apcu_rows_start(apcu_rows *list, size_t room, size_t size);

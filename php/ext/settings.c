@@ -73,12 +73,39 @@ static uint32_t within(zend_long number, zend_long most)
 	return (uint32_t) (number < 0 ? 0 : number > most ? most : number);
 }
 
+static bool is_prime(uint32_t number)
+{
+	for (uint32_t divisor = 2; divisor <= number / divisor; divisor++) {
+		if (number % divisor == 0) {
+			return false;
+		}
+	}
+	return true;
+}
+
+/* The number of slots has to be even. Twice a prime shares no other factor with the 33 of PHP's hash, so keys
+ * that end alike are spread over all slots. The default stays a power of two: its remainder is a mask, which is
+ * faster than a division. */
+static uint32_t slots_for(zend_long hint)
+{
+	enum { DEFAULT = 4096, LEAST = 256, LARGEST_HALF = 524287 };
+
+	if (hint == DEFAULT) {
+		return DEFAULT;
+	}
+	uint32_t half = hint < LEAST ? LEAST / 2 : within(hint / 2 + hint % 2, LARGEST_HALF);
+	/* LARGEST_HALF is a prime. */
+	while (!is_prime(half)) {
+		half++;
+	}
+	return 2 * half;
+}
+
 cache_shape apcu_settings_shape(void)
 {
-	zend_long slots = APCU_G(entries_hint) > 0 ? APCU_G(entries_hint) : 2000;
 	cache_shape shape = {
 		.words = within(APCU_G(shm_size) / 16, UINT32_MAX / 2) * 2,
-		.slots = slots < 256 ? 256 : within(slots / 2 + slots % 2, 1048576 / 2) * 2,
+		.slots = slots_for(APCU_G(entries_hint) > 0 ? APCU_G(entries_hint) : 2000),
 		.ttl = within(APCU_G(ttl), UINT32_MAX),
 		.segments = 1
 	};

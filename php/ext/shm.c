@@ -10,6 +10,7 @@
 #include "record.h"
 
 apcu_shared *apcu_shm;
+bool apcu_has_hash_of_php;
 
 /* Where the library's memory comes from: while a cache is made, out of the mapping; while a shape is
  * judged, there is none; else it is malloc's. Written under the lock alone, or before there is a
@@ -57,6 +58,9 @@ cache_tried rattle_alloc(size_t size, size_t align)
 			/* The words come first, and nothing else of a cache is as large. */
 			if (!apcu_shm->words && size == (size_t) apcu_shm->shape.words * 8) {
 				apcu_shm->words = at;
+				if (at && apcu_shm->cache) {
+					lanes_clear_words(at, size);
+				}
 			}
 			return given(at);
 		}
@@ -97,6 +101,7 @@ static void make(void)
 {
 	apcu_shm->is_made = false;
 	seats_clear(&apcu_shm->seats);
+	lanes_forget(&apcu_shm->lanes);
 	apcu_shm->words = NULL;
 	apcu_shm->used = sizeof *apcu_shm;
 	memset(&apcu_shm->last, 0, sizeof apcu_shm->last);
@@ -109,6 +114,9 @@ static void make(void)
 
 	apcu_shm->cache = at;
 	apcu_shm->start_time = time(NULL);
+	if (is_made) {
+		cache_get_view(at, &apcu_shm->view);
+	}
 	apcu_shm->is_made = is_made;
 }
 
@@ -121,6 +129,20 @@ bool apcu_shm_is_good(const cache_shape *shape)
 	source = FROM_MALLOC;
 	free(at);
 	return is_good;
+}
+
+static bool is_hash_of_php(void)
+{
+	static const char *const keys[] = {"", "a", "user:1", "a key of more than eight bytes", "\x01\x7f~"};
+
+	for (size_t i = 0; i < sizeof keys / sizeof *keys; i++) {
+		size_t len = strlen(keys[i]);
+
+		if (zend_hash_func(keys[i], len) != cache_hash((const uint8_t *) keys[i], len)) {
+			return false;
+		}
+	}
+	return true;
 }
 
 static bool make_locks(void)
@@ -157,10 +179,12 @@ bool apcu_shm_start(const cache_shape *shape, bool is_dumped, size_t *bytes)
 	}
 #endif
 
+	apcu_has_hash_of_php = is_hash_of_php();
 	apcu_shm = at;
 	apcu_shm->size = size;
 	apcu_shm->shape = *shape;
 	if (make_locks()) {
+		lanes_make(&apcu_shm->lanes, &apcu_shm->lock);
 		make();
 	}
 	if (!apcu_shm->is_made) {
@@ -224,6 +248,10 @@ static void recover(void)
 		set_busy(false);
 	} else {
 		seats_settle(&apcu_shm->seats);
+		lanes_settle(&apcu_shm->lanes);
+		if (apcu_shm->is_made) {
+			cache_get_view(apcu_shm->cache, &apcu_shm->view);
+		}
 	}
 }
 
@@ -235,16 +263,21 @@ bool apcu_lock(void)
 	HANDLE_BLOCK_INTERRUPTIONS();
 
 	int error = robust_lock_take(&apcu_shm->lock);
+	if (UNEXPECTED(error != 0 && error != EOWNERDEAD)) {
+		let_signals();
+		return false;
+	}
+	bool has_uses = lanes_wait(&apcu_shm->lanes);
 	if (UNEXPECTED(error != 0)) {
-		if (error != EOWNERDEAD) {
-			let_signals();
-			return false;
-		}
 		recover();
 	}
 	if (UNEXPECTED(!apcu_shm->is_made)) {
 		apcu_unlock();
 		return false;
+	}
+	if (has_uses) {
+		lanes_count(&apcu_shm->lanes, apcu_shm->cache);
+		cache_get_view(apcu_shm->cache, &apcu_shm->view);
 	}
 	return true;
 }
@@ -301,14 +334,87 @@ cache_answer apcu_ask(const cache_request *request, const zend_string *key, cons
 	if (UNEXPECTED(apcu_shm->seats.taken != 0) && may_drop_rows(request->kind)) {
 		seats_sweep(&apcu_shm->seats, apcu_shm->cache);
 	}
-	cache_answer answer = cache_ask(apcu_shm->cache, request,
+	cache_answer answer = cache_ask_hashed(apcu_shm->cache, request,
 		(const uint8_t *) ZSTR_VAL(key), ZSTR_LEN(key), (const uint8_t *) bytes, len);
 	if (UNEXPECTED(apcu_is_recorded)) {
 		apcu_record_note(request, key, bytes, len, &answer);
 		has_news = true;
 	}
+	if (EXPECTED(request->kind != CACHE_EXISTS)) {
+		cache_get_view(apcu_shm->cache, &apcu_shm->view);
+	}
 	set_busy(false);
 	return answer;
+}
+
+bool apcu_read_begin(apcu_reading *reading, time_t t, bool may_note)
+{
+	if (UNEXPECTED(!apcu_shm || apcu_is_recorded)) {
+		return false;
+	}
+	HANDLE_BLOCK_INTERRUPTIONS();
+	reading->lane = lanes_enter(&apcu_shm->lanes, &apcu_shm->lock);
+	reading->has_lock = false;
+	if (EXPECTED(reading->lane)) {
+		if (EXPECTED(apcu_shm->is_made && (!may_note || lane_may_note(&apcu_shm->lanes, reading->lane, (uint64_t) t)))) {
+			return true;
+		}
+		lane_release(reading->lane);
+	}
+	let_signals();
+	reading->lane = &apcu_shm->lanes.lane[0];
+	reading->has_lock = true;
+	return apcu_lock();
+}
+
+void apcu_read_find(const zend_string *key, uint64_t hash, time_t t, struct cache_found *found)
+{
+	cache_find_shared(&apcu_shm->view, apcu_shm->words, apcu_shm->view.len, (const uint8_t *) ZSTR_VAL(key),
+		ZSTR_LEN(key), hash, (uint64_t) t, found);
+}
+
+apcu_kept *apcu_read_kept(zend_string *key, const struct cache_found *found)
+{
+	uint8_t tail[APCU_TAIL];
+
+	if (EXPECTED(APCU_G(kept_size) <= 0) || found->kind != CACHE_STR || !apcu_may_have_stamp(found->len)) {
+		return NULL;
+	}
+	/* Other processes may read too, so no call has the handle. */
+	memcpy(tail, apcu_shm->words + found->place + found->len / 8 - 1, sizeof tail);
+	return apcu_kept_find(key, tail);
+}
+
+void apcu_read_copy(const apcu_reading *reading, const struct cache_found *found, char *out)
+{
+	memcpy(out, apcu_shm->words + found->place, found->len);
+}
+
+bool apcu_read_may_note(const apcu_reading *reading, time_t t)
+{
+	return reading->has_lock || lane_may_note(&apcu_shm->lanes, reading->lane, (uint64_t) t);
+}
+
+void apcu_read_note(const apcu_reading *reading, uint32_t row, time_t t)
+{
+	if (EXPECTED(!reading->has_lock)
+			|| (lanes_set_second(&apcu_shm->lanes, (uint64_t) t) && reading->lane->uses < LANE_USES)) {
+		lane_note(reading->lane, row);
+		return;
+	}
+	/* A request of an earlier second than others have. */
+	lanes_count_now(&apcu_shm->lanes, apcu_shm->cache, row, (uint64_t) t);
+	cache_get_view(apcu_shm->cache, &apcu_shm->view);
+}
+
+void apcu_read_end(const apcu_reading *reading)
+{
+	if (UNEXPECTED(reading->has_lock)) {
+		apcu_unlock();
+		return;
+	}
+	lane_release(reading->lane);
+	let_signals();
 }
 
 uint64_t apcu_shm_stamp(void)
@@ -336,7 +442,8 @@ cache_answer apcu_look(zend_string *key, time_t t, apcu_held *held, apcu_kept **
 		.kind = seat < CACHE_SEATS ? CACHE_HOLD : CACHE_LOOK,
 		.t = (uint64_t) t,
 		.number = seat,
-		.set = APCU_HELD_FROM
+		.set = APCU_HELD_FROM,
+		.hash = apcu_hash_of(key)
 	};
 	cache_answer answer = apcu_ask(&request, key, "", 0);
 

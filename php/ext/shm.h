@@ -7,7 +7,7 @@
 
 #include "php.h"
 #include "cache_c.h"
-#include "robust_lock.h"
+#include "lanes.h"
 #include "seats.h"
 
 /* Keys are spread over as many groups for apcu_entry. */
@@ -36,7 +36,9 @@ typedef struct {
 	size_t size, used;          /* bytes of the mapping, and of those that were given out */
 	uint8_t *cache;             /* the handle */
 	uint64_t *words;            /* what the places of the cache's strings are in */
+	struct cache_view view;     /* of the cache as it is, for those that read in a lane */
 	seats seats;                /* the processes that copy from them outside of the lock */
+	lanes lanes;                /* reads without the lock, and the uses that they noted */
 } apcu_shared;
 
 /* Null where there is no cache in this process. */
@@ -69,11 +71,80 @@ typedef struct {
 /* Without the lock; all are 0 if there is no cache. */
 apcu_state apcu_shm_state(void);
 
-/* One event of the cache, under the lock. */
-cache_answer apcu_ask(const cache_request *request, const zend_string *key, const char *bytes, size_t len);
-
 /* A number that no other call returns in any process, from 1 on. It needs no lock. */
 uint64_t apcu_shm_stamp(void);
+
+/* One event of the cache, under the lock. The request has the hash of its key. */
+cache_answer apcu_ask(const cache_request *request, const zend_string *key, const char *bytes, size_t len);
+
+struct apcu_kept;
+
+/* A look-up that other processes may make at the same time: in a lane, or with the lock. */
+typedef struct {
+	lane *lane;
+	bool has_lock;
+} apcu_reading;
+
+/* Begins one at the second t. Until apcu_read_end the rules of the lock hold. False if there is no cache, and
+ * while calls are recorded, as each is an event of its own then. */
+bool apcu_read_begin(apcu_reading *reading, time_t t, bool may_note);
+
+/* The row that a look-up of the key finds at this second; it counts nothing. */
+void apcu_read_find(const zend_string *key, uint64_t hash, time_t t, struct cache_found *found);
+
+/* The kept value of a string that was found, or null. */
+struct apcu_kept *apcu_read_kept(zend_string *key, const struct cache_found *found);
+
+/* Copies the bytes of a string that was found. */
+void apcu_read_copy(const apcu_reading *reading, const struct cache_found *found, char *out);
+
+/* Counts a hit of a row, or a miss for 0; if it was begun so, and again while it may. */
+void apcu_read_note(const apcu_reading *reading, uint32_t row, time_t t);
+bool apcu_read_may_note(const apcu_reading *reading, time_t t);
+void apcu_read_end(const apcu_reading *reading);
+
+/* Whether PHP's hash of ASCII keys is the cache's. Of other keys it is another one if char has a sign. */
+extern bool apcu_has_hash_of_php;
+
+static zend_always_inline bool apcu_is_ascii(const zend_string *key)
+{
+	const char *bytes = ZSTR_VAL(key);
+	size_t len = ZSTR_LEN(key);
+	uint64_t all = 0, eight;
+
+	if (len < sizeof eight) {
+		for (size_t i = 0; i < len; i++) {
+			all |= (unsigned char) bytes[i];
+		}
+	} else {
+		for (size_t i = 0; i < len - sizeof eight; i += sizeof eight) {
+			memcpy(&eight, bytes + i, sizeof eight);
+			all |= eight;
+		}
+		memcpy(&eight, bytes + len - sizeof eight, sizeof eight);
+		all |= eight;
+	}
+	return (all & UINT64_C(0x8080808080808080)) == 0;
+}
+
+/* The hash by which the cache knows a key. */
+static zend_always_inline uint64_t apcu_hash_of(const zend_string *key)
+{
+	if (EXPECTED(apcu_has_hash_of_php && apcu_is_ascii(key))) {
+		return zend_string_hash_val((zend_string *) key);
+	}
+	return cache_hash((const uint8_t *) ZSTR_VAL(key), ZSTR_LEN(key));
+}
+
+/* The bytes from which on a string is not copied in a lane, but held; and if there are no lanes. From some 3,000 bytes
+ * on a copy under the lock takes longer than a seat, with one process too. */
+#define APCU_LANE_MOST 65536
+#define APCU_HELD_FROM 4096
+
+static inline size_t apcu_lane_most(void)
+{
+	return apcu_shm->lock.is_mutex ? APCU_HELD_FROM : APCU_LANE_MOST;
+}
 
 /* A string that is copied when the lock was given back; null bytes: there is none. Its bytes stay as they
  * are until it is let go, whatever others store, delete or clear. */
@@ -83,11 +154,6 @@ typedef struct {
 	uint64_t ticket;
 	unsigned seat;
 } apcu_held;
-
-/* The bytes from which on a string is copied so. From some 3,000 on that takes less time, alone too. */
-#define APCU_HELD_FROM 4096
-
-struct apcu_kept;
 
 /* One event under the lock: a look-up. A long string that it finds is held, but while calls are recorded,
  * and while many others are, and unless its value is kept. */

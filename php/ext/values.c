@@ -317,6 +317,11 @@ static bool unpack_bytes(zval *out, char *bytes, size_t len, char mark, zend_str
 	return false;
 }
 
+bool apcu_is_plain(const char *bytes, size_t len)
+{
+	return len > 0 && (bytes[len - 1] == MARK_TEXT || bytes[len - 1] == MARK_DOUBLE);
+}
+
 bool apcu_unpack(zval *out, const cache_answer *answer, char *bytes, zend_string *text)
 {
 	bool is_read = true;

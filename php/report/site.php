@@ -56,10 +56,28 @@ function bytes_of(string $size): int
     return $bytes < 1_048_576 ? $bytes * 1_048_576 : intdiv($bytes, 16) * 16;
 }
 
-/** How many slots the extension makes of apc.entries_hint. */
+/** How many slots the extension makes of apc.entries_hint: twice a prime, but 4,096 stays. */
 function slots_of(int $hint): int
 {
-    return max(256, min(1_048_576, 2 * intdiv(($hint > 0 ? $hint : 2000) + 1, 2)));
+    if ($hint === 4096) {
+        return $hint;
+    }
+    $hint = $hint > 0 ? $hint : 2000;
+    $half = max(128, min(524_287, intdiv($hint, 2) + $hint % 2));
+    while (!is_prime($half)) {
+        $half++;
+    }
+    return 2 * $half;
+}
+
+function is_prime(int $number): bool
+{
+    for ($divisor = 2; $divisor * $divisor <= $number; $divisor++) {
+        if ($number % $divisor === 0) {
+            return false;
+        }
+    }
+    return true;
 }
 
 /** @return array{size: int, setting: string, rest: string} the options without those that the program takes for granted */

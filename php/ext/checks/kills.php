@@ -3,13 +3,15 @@
 // Four processes call the cache, and so many times one of them is killed at any moment and another one takes its
 // place. After each kill a process that is never killed has to be answered, within twenty seconds; no value may be
 // another's or half written; at the end all have to come to an end by themselves.
-// php kills.php KILLS; its status is 0, 1 where a value was wrong and 2 where a process stood still.
+// php kills.php KILLS [reads]; its status is 0, 1 where a value was wrong and 2 where a process stood still. With `reads`
+// those that are killed only fetch and ask whether keys exist: then no row may be missing at any time.
 
 declare(strict_types=1);
 
 require __DIR__ . '/work.php';
 
 const PATIENCE = 20;
+const ROWS = 200;
 
 /** What a process has to do, over its end of a pair of streams. */
 function start(callable $what, array &$others): array
@@ -37,6 +39,29 @@ function worker($stream): int
         $fault = work_once();
         if ($fault !== null) {
             fwrite(STDERR, "$fault\n");
+            return 3;
+        }
+        if ($made % 50 === 0 && fread($stream, 1) === '' && feof($stream)) {
+            return 0;
+        }
+    }
+}
+
+/** What the rows of readers hold: an integer, a text of 100 bytes, an array, a text of 10,000 bytes. */
+function value_of_row(int $row): mixed
+{
+    return [$row, str_repeat("$row,", 25), ['row' => $row, 'list' => range(0, 20)], str_repeat(chr(97 + $row % 26), 10000)][$row % 4];
+}
+
+/** Fetches rows until the other end is closed. */
+function reader($stream): int
+{
+    stream_set_blocking($stream, false);
+    for ($made = 0; ; $made++) {
+        $row = mt_rand(0, ROWS - 1);
+        $is_right = $made % 3 === 0 ? apcu_exists("row $row") : apcu_fetch("row $row") === value_of_row($row);
+        if (!$is_right) {
+            fwrite(STDERR, "row $row is missing or another one\n");
             return 3;
         }
         if ($made % 50 === 0 && fread($stream, 1) === '' && feof($stream)) {
@@ -88,10 +113,14 @@ function is_answered($stream, array $all): bool
 }
 
 $wanted = (int) ($argv[1] ?? 300);
+$work = ($argv[2] ?? '') === 'reads' ? 'reader' : 'worker';
+for ($row = 0; $row < ROWS && $work === 'reader'; $row++) {
+    apcu_store("row $row", value_of_row($row));
+}
 $all = [];
 $all['asked'] = start('asked', $all);
 for ($i = 0; $i < 4; $i++) {
-    $all[$i] = start('worker', $all);
+    $all[$i] = start($work, $all);
 }
 [$wrong, $anew, $begun] = [0, 'none', microtime(true)];
 for ($kills = 1; $kills <= $wanted; $kills++) {
@@ -118,7 +147,7 @@ for ($kills = 1; $kills <= $wanted; $kills++) {
     } else {
         $anew = $answer;
     }
-    $all[$at] = start('worker', $all);
+    $all[$at] = start($work, $all);
 }
 $took = microtime(true) - $begun;
 // All others end by themselves once their streams are closed.
@@ -140,4 +169,8 @@ foreach ($all as $name => $one) {
     }
 }
 printf("%d kills, made anew %s times, %d faults, %.1f s\n", $wanted, $anew, max($wrong, 0), $took);
+if ($work === 'reader' && $anew !== '0' && $anew !== 'none') {
+    echo "a process that was killed while it read emptied the cache\n";
+    $wrong++;
+}
 exit($wrong < 0 ? 2 : min($wrong, 1));
