@@ -206,6 +206,18 @@ static inline cache_row cache_find_row(uint8_t *at, const uint8_t *key, size_t k
 static inline uint64_t cache_list_rows(uint8_t *at, uint32_t slot, uint64_t skip, cache_row *out,
                                        size_t room);
 
+/* How far a listing of several lists came. */
+struct cache_listing {
+    uint32_t next;  /* the first list that was not written; `to` if all were */
+    uint64_t count; /* the number of rows that were written, those of the lists before it */
+};
+
+/* The rows of the lists from `from` up to `to`, list after list, each as cache_list_rows writes it,
+ * until all rows of one do not fit. The places behind the rows that were counted may have changed.
+ * If a pointer is null, nothing is written: next is `from`, and count is 0. */
+static inline void cache_list_slots(uint8_t *at, uint32_t from, uint32_t to, cache_row *out,
+                                    size_t room, struct cache_listing *listing);
+
 /* A gap between blocks, in words. */
 typedef struct {
     uint32_t place, size;
@@ -265,6 +277,8 @@ cache_counts cache_get_counts_unchecked(uint8_t *at);
 cache_row cache_find_row_unchecked(uint8_t *at, const uint8_t *key, size_t key_len, uint64_t t);
 uint64_t cache_list_rows_unchecked(uint8_t *at, uint32_t slot, uint64_t skip, cache_row *out,
                                    size_t room);
+struct cache_listing cache_list_slots_unchecked(uint8_t *at, uint32_t from, uint32_t to,
+                                                cache_row *out, size_t room);
 uint64_t cache_list_gaps_unchecked(uint8_t *at, uint32_t from, cache_gap *out, size_t room);
 
 struct cache_view cache_get_view_unchecked(uint8_t *at);
@@ -349,6 +363,16 @@ static inline uint64_t cache_list_rows(uint8_t *at, uint32_t slot, uint64_t skip
     if (!at || !out || room > SIZE_MAX / 2 / sizeof *out)
         return 0;
     return cache_list_rows_unchecked(at, slot, skip, out, room);
+}
+
+static inline void cache_list_slots(uint8_t *at, uint32_t from, uint32_t to, cache_row *out,
+                                    size_t room, struct cache_listing *listing) {
+    if (!listing)
+        return;
+    listing->next = from;
+    listing->count = 0;
+    if (at && out && room <= SIZE_MAX / 2 / sizeof *out)
+        *listing = cache_list_slots_unchecked(at, from, to, out, room);
 }
 
 static inline uint64_t cache_list_gaps(uint8_t *at, uint32_t from, cache_gap *out, size_t room) {

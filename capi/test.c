@@ -276,6 +276,26 @@ static void told(void) {
     WANT(cache_list_rows(at, shape.slots + 1, 0, rows, 8) == 0);
     WANT(cache_list_rows(at, row.slot, 0, rows, 0) == 0);
 
+    /* The same rows by calls that list many slots. */
+    struct cache_listing listing = {0, 0};
+    uint64_t again = 0, again_words = 0;
+    for (uint32_t from = 0; from <= shape.slots; from = listing.next) {
+        cache_list_slots(at, from, shape.slots + 1, rows, 8, &listing);
+        for (uint64_t i = 0; i < listing.count; i++) {
+            again++;
+            again_words += rows[i].size;
+            WANT(rows[i].slot >= from && rows[i].slot < listing.next);
+        }
+        WANT(listing.next > from && listing.next <= shape.slots + 1);
+        if (listing.next <= from)
+            break;
+    }
+    WANT(again == all && again_words == words);
+    cache_list_slots(at, row.slot, row.slot + 1, rows, 0, &listing);
+    WANT(listing.next == row.slot && listing.count == 0);
+    cache_list_slots(at, 5, 5, rows, 8, &listing);
+    WANT(listing.next == 5 && listing.count == 0);
+
     cache_gap gap = {0};
     uint64_t free_words = 0;
     for (uint32_t from = 0; cache_list_gaps(at, from, &gap, 1) == 1; from = gap.place + 1)
@@ -428,6 +448,14 @@ static void nulls(void) {
     WANT(cache_list_rows(NULL, slot, 0, &row, 1) == 0);
     WANT(cache_list_rows(at, slot, 0, NULL, 1) == 0);
     WANT(cache_list_rows(at, slot, 0, &row, longest / sizeof row + 1) == 0);
+    struct cache_listing listing = {7, 7};
+    cache_list_slots(at, slot, slot + 1, &row, 1, NULL);
+    cache_list_slots(NULL, slot, slot + 1, &row, 1, &listing);
+    WANT(listing.next == slot && listing.count == 0);
+    cache_list_slots(at, slot, slot + 1, NULL, 1, &listing);
+    WANT(listing.next == slot && listing.count == 0);
+    cache_list_slots(at, slot, slot + 1, &row, longest / sizeof row + 1, &listing);
+    WANT(listing.next == slot && listing.count == 0);
     WANT(cache_list_gaps(NULL, 0, &gap, 1) == 0);
     WANT(cache_list_gaps(at, 0, NULL, 1) == 0);
     WANT(cache_list_gaps(at, 0, &gap, longest / sizeof gap) == 0);

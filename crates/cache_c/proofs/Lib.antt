@@ -10,4 +10,5 @@ pub mod Steps
 pub mod ToldGaps
 pub mod ToldRows
 pub mod Walks
+pub mod WholeLists
 pub mod SharedRows

@@ -8,6 +8,7 @@ use Rattle.cache_c.specs.declared.counts.ToldCounts.{ToldCounts}
 use Rattle.cache_c.specs.declared.counts.Gap.{Gap}
 use Rattle.cache_c.specs.declared.making.Shape.{Shape}
 use Rattle.cache_c.specs.declared.rows.ToldRow.{ToldRow}
+use Rattle.cache_c.specs.declared.rows.Listing.{Listing}
 use Rattle.cache_c.specs.declared.shared.Found.{Found}
 use Rattle.cache_c.specs.declared.shared.View.{View}
 use Rattle.cache_c.specs.declared.asking.TheConstants as asking
@@ -20,6 +21,7 @@ use Rattle.cache_c.specs.contracts.counts.ToldCounts as counts_laid
 use Rattle.cache_c.specs.contracts.counts.Gap as gap_laid
 use Rattle.cache_c.specs.contracts.making.Shape as shape_laid
 use Rattle.cache_c.specs.contracts.rows.ToldRow as row_laid
+use Rattle.cache_c.specs.contracts.rows.Listing as listing_laid
 use Rattle.cache_c.specs.contracts.shared.Found as found_laid
 use Rattle.cache_c.specs.contracts.shared.View as view_laid
 
@@ -63,6 +65,7 @@ pub record StructSizes : Type 0 where
   pub answer : size (layout answer_laid.the_row) ≡ 24
   pub counts : size (layout counts_laid.the_row) ≡ 56
   pub row : size (layout row_laid.the_row) ≡ 88
+  pub listing : size (layout listing_laid.the_row) ≡ 16
   pub gap : size (layout gap_laid.the_row) ≡ 8
   pub view : size (layout view_laid.the_row) ≡ 12
   pub found : size (layout found_laid.the_row) ≡ 32
@@ -106,6 +109,7 @@ pub record FieldOrders : Type 0 where
           ),
         ),
       )
+  pub listing : (l : Listing) → listing_laid.the_type.as_values l ≡ (l.next, (l.count, tt))
   pub gap : (g : Gap) → gap_laid.the_type.as_values g ≡ (g.place, (g.size, tt))
   pub view : (v : View) → view_laid.the_type.as_values v ≡ (v.slots, (v.rows, (v.len, tt)))
   pub found : (f : Found) → found_laid.the_type.as_values f

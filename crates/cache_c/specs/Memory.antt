@@ -13,6 +13,7 @@ use Rattle.cache_c.specs.declared.asking.Answer.{Answer}
 use Rattle.cache_c.specs.declared.counts.ToldCounts.{ToldCounts}
 use Rattle.cache_c.specs.declared.counts.Gap.{Gap}
 use Rattle.cache_c.specs.declared.rows.ToldRow.{ToldRow}
+use Rattle.cache_c.specs.declared.rows.Listing.{Listing}
 use Rattle.cache_c.specs.contracts.counts.Gap.{the_row as gap_type}
 use Rattle.cache_c.specs.contracts.rows.ToldRow.{the_row as row_type}
 use Rattle.cache_c.specs.contracts.cache.Cache.{the_row}
@@ -24,7 +25,7 @@ use Rattle.cache_c.specs.declared.making.TheConstants.{MADE}
 use Rattle.cache_c.specs.Asked.{asked_for, IsAnswered, HasCopied, HasLetGo, KeepsSeats, MayAsk}
 use Rattle.cache_c.specs.Made.{conf_of, IsEmpty, IsRefusal}
 use Rattle.cache_c.specs.Told.{counts_told, found_row, rows_of, gaps_from}
-use Rattle.cache_c.specs.Told.{IsFoundBy, AreListedBy, AreGapsBy}
+use Rattle.cache_c.specs.Told.{IsFoundBy, AreListedBy, AreListsBy, AreGapsBy}
 use Rattle.apcu_model.specs.Infos.{gaps_of}
 use Rattle.cache_core.specs.CoreCache.{cache_of}
 
@@ -106,6 +107,13 @@ has_listed old before at slot skip out room count =
     fex (Cache × List ToldRow) (λ new. fsep (stands_at at new.0) (fsep (rows_at out room new.1)
     (fex (StandsUnchanged old new.0 × AreListedBy (cache_words new.0) slot
     (drop skip (rows_of (cache_of old.core) slot)) before new.1 count) (λ _. ftrue))))
+
+-- so of the rows of several lists
+abbrev pub has_lists : Cache → List ToldRow → Ptr → ℕ → ℕ → Ptr → ℕ → Listing → Fml
+has_lists old before at from to out room listing =
+    fex (Cache × List ToldRow) (λ new. fsep (stands_at at new.0) (fsep (rows_at out room new.1)
+    (fex (StandsUnchanged old new.0 × AreListsBy (cache_words new.0) (cache_of old.core) from to
+    before new.1 listing) (λ _. ftrue))))
 
 -- so many gaps lie there
 abbrev pub gaps_at : Ptr → ℕ → List Gap → Fml

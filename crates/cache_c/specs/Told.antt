@@ -1,6 +1,7 @@
 -- What is told of a cache by numbers.
 use Rattle.std.specs.Prelude.{◌≡◌, ◌≢◌, ℕ, ◌==◌, if◌then◌else◌, nat_lt, nat_le, min, ⊤, List, []}
 use Rattle.std.specs.Prelude.{◌∷◌, length, map, filter, take, drop, Option, Some, None}
+use Rattle.std.specs.Prelude.{◌+◌, ◌-◌, ◌<◌, ◌≤◌, zero, suc}
 use Rattle.seg_words.specs.declared.gaps.Extent.{Extent}
 use Rattle.apcu_model.specs.declared.row_info.RowInfo.{RowInfo}
 use Rattle.apcu_model.specs.Cache.{Row, Cache}
@@ -8,6 +9,7 @@ use Rattle.apcu_model.specs.Expiry.{live_row}
 use Rattle.apcu_model.specs.SlotOrder.{slot_of, is_in_slot}
 use Rattle.apcu_model.specs.Infos.{info_of_row, row_words, gap_words_of}
 use Rattle.cache_c.specs.declared.rows.ToldRow.{ToldRow}
+use Rattle.cache_c.specs.declared.rows.Listing.{Listing}
 use Rattle.cache_c.specs.declared.counts.ToldCounts.{ToldCounts}
 use Rattle.cache_c.specs.declared.counts.Gap.{Gap}
 use Rattle.cache_c.specs.Asked.{IsValueBy, is_short}
@@ -58,6 +60,32 @@ abbrev pub rows_of : Cache → ℕ → List Row
 rows_of c slot =
     if nat_lt slot c.conf.slots then filter (is_in_slot c.conf slot) c.rows else
     if slot == c.conf.slots then c.removed else []
+
+-- A listing of this list, with none of its rows skipped, writes all of them, and would leave the
+-- slice as it is.
+pub record IsWholeList (words : List ℕ) (c : Cache) (list : ℕ) (there : List ToldRow) (n : ℕ)
+    : Type 0 where
+  pub all : n ≡ length (rows_of c list)
+  pub rows : AreListedBy words list (rows_of c list) there there n
+
+-- the number of rows of the first lists from one on
+abbrev pub rows_from : Cache → ℕ → ℕ → ℕ
+rows_from c from zero = 0
+rows_from c from (suc lists) = rows_from c from lists + length (rows_of c (from + lists))
+
+-- Whole lists from one up to another are in the slice, each behind those before it. The next one,
+-- if it is still one of those asked for, has more rows than there is room for.
+pub record AreListsBy (words : List ℕ) (c : Cache) (from to : ℕ) (old new : List ToldRow)
+    (listing : Listing) : Type 0 where
+  pub lists : (i : ℕ) → from + i < listing.next
+      → IsWholeList words c (from + i) (drop (rows_from c from i) new)
+      (length (rows_of c (from + i)))
+  pub count : listing.count ≡ rows_from c from (listing.next - from)
+  pub fits : listing.count ≤ length old
+  pub low : from ≤ to → from ≤ listing.next
+  pub high : listing.next ≤ to
+  pub full : listing.next < to
+      → length old < listing.count + length (rows_of c listing.next)
 
 -- the row that a look-up of a key finds; no key that is too long has one
 abbrev pub found_row : List ℕ → ℕ → Cache → Option Row

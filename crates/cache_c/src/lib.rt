@@ -24,7 +24,7 @@ ghost use base.Fml.{fsep};
 ghost use Rattle.cache_c.specs.declared.cache.Cache.{Cache};
 ghost use Rattle.cache_c.specs.Memory.{room, stands_at, asks_at, bytes_at};
 ghost use Rattle.cache_c.specs.Memory.{has_asked, has_copied, has_let_go, is_given};
-ghost use Rattle.cache_c.specs.Memory.{has_counted, has_found, has_listed, has_gaps};
+ghost use Rattle.cache_c.specs.Memory.{has_counted, has_found, has_listed, has_lists, has_gaps};
 ghost use Rattle.cache_c.specs.Memory.{rows_at, gaps_at, counts_at, has_used, has_view};
 ghost use Rattle.cache_c.specs.Shared.{IsShared, IsFoundFor};
 ghost use Rattle.cache_c.specs.declared.counts.Gap.{Gap};
@@ -37,7 +37,7 @@ pub use header::header_is_right;
 pub use making::Shape;
 use making::{MADE, made};
 use php_graph::hash_of;
-pub use rows::ToldRow;
+pub use rows::{Listing, ToldRow};
 use shared::find_shared;
 pub use shared::{Found, View};
 use std::alloc::Global;
@@ -153,6 +153,25 @@ pub unsafe extern "C" fn cache_list_rows_unchecked(
     ensures* { sem 𝓛 (has_listed old.0 old.1 at slot skip out room result) }
 {
     (&mut *at.cast::<Cache>()).list_rows(slot, skip, std::slice::from_raw_parts_mut(out, room))
+}
+
+/// Writes the rows of the lists from `from` up to `to` of the cache at `at`, list after list, to the
+/// `room` places at `out`, until all rows of one do not fit. Returns the first list that it did not
+/// write, which is `to` if all fit, and the number of rows of those before it. What the places
+/// behind these rows have is arbitrary. Nothing changes.
+#[unsafe(no_mangle)]
+pub unsafe extern "C" fn cache_list_slots_unchecked(
+    at: *mut u8,
+    from: u32,
+    to: u32,
+    out: *mut ToldRow,
+    room: usize,
+) -> Listing
+    ghost old: { Cache × List ToldRow }
+    requires* { sem 𝓛 (fsep (stands_at at old.0) (rows_at out room old.1)) }
+    ensures* { sem 𝓛 (has_lists old.0 old.1 at from to out room result) }
+{
+    (&mut *at.cast::<Cache>()).list_slots(from, to, std::slice::from_raw_parts_mut(out, room))
 }
 
 /// Writes the gaps of the cache at `at` from a place on, by rising place, to the `room` places at

@@ -1,6 +1,7 @@
 //! Rows as C reads them.
 
 ghost use Rattle.std.specs.Prelude.{◌≡◌, ℕ, ◌+◌, ◌<◌, ◌^◌, true, length, drop, List, None};
+ghost use Rattle.std.specs.Prelude.{IfSome, IfNone};
 ghost use Rattle.php_graph.specs.declared.kind.Kind.{Kind};
 ghost use Rattle.seg_words.specs.Kept.{Kept};
 ghost use Rattle.seg_words.specs.Windows.{nothing_aside};
@@ -14,6 +15,7 @@ ghost use Rattle.cache_core.specs.CoreCache.{cache_of};
 ghost use Rattle.cache_c.specs.Standing.{StandsForCache, StandsUnchanged, cache_words};
 ghost use Rattle.cache_c.specs.Asked.{IsValueBy};
 ghost use Rattle.cache_c.specs.Told.{IsRowBy, IsFoundBy, AreListedBy, rows_of, found_row};
+ghost use Rattle.cache_c.specs.Told.{IsWholeList, AreListsBy};
 
 use crate::asking::{ABSENT, Answer, OTHER, plain, scalar};
 use crate::cache::Cache;
@@ -51,6 +53,16 @@ pub struct ToldRow {
     pub hits: u64,
     /// Its value, as a look-up answers it.
     pub value: Answer,
+}
+
+/// How far a call came that lists several lists.
+#[repr(C)]
+#[derive(Clone, Copy)]
+pub struct Listing {
+    /// The first list that it did not write.
+    pub next: u32,
+    /// The number of rows that it wrote, all of whole lists.
+    pub count: u64,
 }
 
 // There is no row.
@@ -109,6 +121,52 @@ impl Cache {
             at = self.after(at);
         }
         out.len() as u64
+    }
+
+    /// Fills the slice with the rows of the lists from `from` up to `to`, list after list, until all
+    /// rows of one do not fit. What is behind the rows of the lists before it is arbitrary.
+    pub(crate) fn list_slots(&mut self, from: u32, to: u32, out: &mut [ToldRow]) -> Listing
+        requires stand { StandsForCache self.old }
+        ensures same { StandsUnchanged self.old self.new }
+        ensures lists { AreListsBy (cache_words self.new) (cache_of self.old.core) from to
+            out.old out.new result }
+    {
+        let mut count = 0;
+        for slot in from..to {
+            let Some(more) = self.list_whole(slot, &mut out[count..]) else {
+                return Listing {
+                    next: slot,
+                    count: count as u64,
+                };
+            };
+            count += more;
+        }
+        Listing {
+            next: to,
+            count: count as u64,
+        }
+    }
+
+    // Fills the slice with all rows of a list. Returns how many there are, or none if they do not
+    // fit.
+    fn list_whole(&mut self, slot: u32, out: &mut [ToldRow]) -> Option<usize>
+        requires stand { StandsForCache self.old }
+        ensures same { StandsUnchanged self.old self.new }
+        ensures len { length out.new ≡ length out.old }
+        ensures all { IfSome result (λ n. IsWholeList (cache_words self.new)
+            (cache_of self.old.core) slot out.new n) }
+        ensures none { IfNone result
+            (length out.old < length (rows_of (cache_of self.old.core) slot)) }
+    {
+        standing_laws();
+        let count = self.list_rows(slot, 0, out);
+        if count < out.len() as u64 {
+            return Some(count as usize);
+        }
+        if self.skipped(slot, count) != 0 {
+            return None;
+        }
+        Some(count as usize)
     }
 
     // The place of the row that is in a list after the first `skip`; 0 if there is none.
