@@ -1,4 +1,5 @@
 #!/bin/sh
+# SPDX-License-Identifier: MIT
 # Copies the source package of the extension into a folder: the extension, its tests, the headers and the assembly text
 # of the engine. phpize works there, and so does `pecl package`.
 #
