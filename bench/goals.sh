@@ -1,4 +1,5 @@
 #!/usr/bin/env bash
+# SPDX-License-Identifier: MIT
 # What the speed of this cache is to be, beside PHP's APCu in the same run, as one table with the ratio (ours / PHP's)
 # first. A goal is of the ratio, of our own figure, or of ours / the floor:
 # - generated runs of one and of four workers, and of 64 beside four;

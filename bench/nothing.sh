@@ -1,4 +1,5 @@
 #!/usr/bin/env bash
+# SPDX-License-Identifier: MIT
 # What the commands of README's Try it take from nothing, by the clock and of processors: the first example by rt try,
 # ./prove, and the example by the program that is built then. They run in a clone of what is committed here, with a copy
 # of the kit by hard links, beside which rt finds nothing that it has kept. Clone and copy are removed at the end.

@@ -1,4 +1,5 @@
 #!/bin/sh
+# SPDX-License-Identifier: MIT
 # Nanoseconds a word of ways to go over the same text of 64 KB.
 #   loads   a load of each word of its pinned block, summed: single steps that other threads see
 #   stores  the same loads, each stored into memory that is there

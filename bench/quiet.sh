@@ -1,3 +1,4 @@
+# SPDX-License-Identifier: MIT
 # Figures that are kept only where the machine is quiet; scripts of bench/ read this file. A script sets `scratch`, a
 # folder of its own, before it measures, and calls `tell_of_quiet` at its end. NOISY=1 in the environment measures
 # without a test, which tries a script alone, QUIET_SECONDS=N waits so long in all for a machine that is not quiet, and

@@ -1,4 +1,5 @@
 #!/bin/sh
+# SPDX-License-Identifier: MIT
 # Nanoseconds a word of writing images, of reading graphs back, of copying the graph itself (which is what the
 # memory of a graph costs that a reader gets for its own), and of a plain copy of as many words. Then nanoseconds
 # a value of small values: their images, and their texts in the notation.

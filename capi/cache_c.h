@@ -1,3 +1,4 @@
+/* SPDX-License-Identifier: MIT */
 /* The proved cache as a library for C.
  *
  * One call at a time: the caller holds a lock round each call, and the calls of all processes are

@@ -1,3 +1,4 @@
+/* SPDX-License-Identifier: MIT */
 /* Copies outside of the lock. A process holds a large text and reads it without the lock, while
  * others delete it, store over it, clear the cache and fill it: each byte is the old one. Then a
  * process is killed while it copies, and so are as many as there are seats, with no process waiting

@@ -1,3 +1,4 @@
+/* SPDX-License-Identifier: MIT */
 /* Deaths one by one. A child enters, stores over a row and leaves; its parent steps it, and kills it
  * behind its first instruction, behind its second, and so on: at each where the lock is taken and
  * given back, and at some of the call. Then the parent enters, and finds the old text or the new

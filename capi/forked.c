@@ -1,3 +1,4 @@
+/* SPDX-License-Identifier: MIT */
 /* Eight processes share a cache. First they count together. Then each stores and fetches texts,
  * and one after another is killed at a random moment; where one died inside a call, the next
  * process that enters makes the cache anew. Prints what was found.

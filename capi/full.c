@@ -1,3 +1,4 @@
+/* SPDX-License-Identifier: MIT */
 /* A cache of so many words is filled to the last gap, and all of it is read back.
  * Usage: full WORDS. Ends with status 77 where the library takes no shape of so many words. */
 #define _GNU_SOURCE

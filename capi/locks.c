@@ -1,3 +1,4 @@
+/* SPDX-License-Identifier: MIT */
 /* Deaths at a lock and at a mark. A child is stepped, and killed behind its first instruction, its second, and so
  * on, while it takes a free lock, while it gives one back for which another one sleeps, and when it
  * was woken: where the lock is free, and where somebody has taken it meanwhile. Each time another

@@ -1,3 +1,4 @@
+/* SPDX-License-Identifier: MIT */
 /* What a cache takes of memory: all of it while it is made, and none of that is moved or freed by a
  * later call, which frees what it takes itself. Prints each call that does otherwise, and how many
  * calls were made.

@@ -1,3 +1,4 @@
+/* SPDX-License-Identifier: MIT */
 /* Two caches are asked the same: one by cache_ask, the other by shared look-ups, which are counted
  * later. Each answer, each row and each count must be the same. Prints each line that is not so, and
  * how many were. */

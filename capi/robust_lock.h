@@ -1,3 +1,4 @@
+/* SPDX-License-Identifier: MIT */
 /* A lock of all processes that share its memory, which outlives its owner: the next owner learns
  * that the last one died with it. And a mark, which shows whether the thread that set it is alive.
  * For the C here and the extension for PHP; a file that includes it defines _GNU_SOURCE first.

@@ -1,4 +1,5 @@
 #!/usr/bin/env bash
+# SPDX-License-Identifier: MIT
 # Compiles the programs of this folder over the library for C, runs each in bounded time, and judges what it prints:
 # `test` makes each call, with each null too, `reads` looks up by many and counts later, `forked` has eight processes
 # that count to a million and 300 that are killed, `copies` reads outside of the lock while others store, `deaths` kills

@@ -1,3 +1,4 @@
+/* SPDX-License-Identifier: MIT */
 /* Seats: the processes that copy outside of the lock, and from which rows. For the C here and the
  * extension for PHP.
  *

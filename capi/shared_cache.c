@@ -1,3 +1,4 @@
+/* SPDX-License-Identifier: MIT */
 /* See shared_cache.h. */
 #define _GNU_SOURCE
 #include "shared_cache.h"

@@ -1,3 +1,4 @@
+/* SPDX-License-Identifier: MIT */
 /* One cache for a process and those that it forks: memory that they share, the functions by which
  * the library asks for it, and a lock that outlives its owner. */
 #ifndef SHARED_CACHE_H

@@ -1,3 +1,4 @@
+/* SPDX-License-Identifier: MIT */
 /* Each call in one process: what it answers, and what it refuses. Prints each line that is not so,
  * and how many were.
  * Usage: test [nulls], which tries null pointers alone. */

@@ -1,4 +1,5 @@
 #!/usr/bin/env bash
+# SPDX-License-Identifier: MIT
 # Plays each case of docs/differences/ on PHP's APCu and on the program, and tells each that prints something else than
 # its folder says. Where several workers meet, what stands there is judged as an output of the case's script, and so is
 # what the program prints of it. With the extension, SO, it plays the PHP of each case there too: it prints what APCu

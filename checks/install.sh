@@ -1,4 +1,5 @@
 #!/usr/bin/env bash
+# SPDX-License-Identifier: MIT
 # Runs what README, docs/EXTENSION.md and capi/README.md say of installing, in a fresh clone of this repository with no
 # kit on the path, and prints the seconds of each: the extension by build.sh, by PHP's own lines with its tests, and as a
 # package of PECL; composer.json; a C program by one line and by pkg-config. If a compiler and an emulator for aarch64 are

@@ -1,4 +1,5 @@
 #!/usr/bin/env bash
+# SPDX-License-Identifier: MIT
 # That the pages are right: links, and paths of this repository in backquotes, lead to files; CLAIMS, READING, the
 # tables of ARCHITECTURE, and DIFFERENCES are what their scripts write; the clause that README shows is in the sources; no
 # file has more words of checks/words.py's list than it may keep; the commands of the pages of examples/, which show the

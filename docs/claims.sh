@@ -1,4 +1,5 @@
 #!/usr/bin/env bash
+# SPDX-License-Identifier: MIT
 # Writes the coverage and the lists of CLAIMS.md, between its two marks, from the rows of claims.txt and the lines
 # 'clause:' of the edits. It writes nothing and ends with status 1 if a row names a clause or a test that is not there, or
 # if an edit names no clause, or one that is in no row, or if crates.txt has another number of functions that may wait than

@@ -1,4 +1,5 @@
 #!/usr/bin/env bash
+# SPDX-License-Identifier: MIT
 # Writes the table and lists of crates of ARCHITECTURE.md, between its two marks: what each crate is, by the first sentence
 # of its own comment, what it stands on, by crates.txt, and the functions that carry it, by the lines 'carries:' of claims.txt;
 # and whose proofs cite lemmas out of the proofs of a lower crate, by their imports.

@@ -1,4 +1,5 @@
 #!/usr/bin/env bash
+# SPDX-License-Identifier: MIT
 # Writes READING.md: the definitions that the clauses of `run` rest on, first those of an hour, then the others by subject.
 # It follows the imports word by word, from the clauses through the definitions that they cite, and the words of Rattle's
 # kit through the kit. With --check it writes nothing, and ends with status 1 where READING.md is not what it would write;

@@ -1,4 +1,4 @@
-<?php
+<?php // SPDX-License-Identifier: MIT
 function prices(): array
 {
     echo "made\n";

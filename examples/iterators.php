@@ -1,4 +1,4 @@
-<?php
+<?php // SPDX-License-Identifier: MIT
 apcu_store(['user:42' => 'Ann', 'user:43' => 'Bob', 'front' => 'hello']);
 apcu_fetch('user:42');
 foreach (new APCUIterator('/^user:/', APC_ITER_KEY | APC_ITER_NUM_HITS) as $row) echo "$row[key] $row[num_hits]\n";

@@ -1,4 +1,4 @@
-<?php
+<?php // SPDX-License-Identifier: MIT
 apcu_store('page', str_repeat('x', 1_000_000));
 if (pcntl_fork() == 0) {
     apcu_delete('page');

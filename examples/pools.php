@@ -1,4 +1,4 @@
-<?php
+<?php // SPDX-License-Identifier: MIT
 require __DIR__ . '/../checks/pools/pool.php';
 [$shop, $blog] = [new ApcuPools\Pool('shop'), new ApcuPools\Pool('blog')];
 $shop->set('title', 'Corner 24');

@@ -1,4 +1,4 @@
-<?php
+<?php // SPDX-License-Identifier: MIT
 $is_child = false;
 for ($n = 0; $n < 4 && !$is_child; $n++) $is_child = pcntl_fork() == 0;
 if ($is_child) {

@@ -1,4 +1,4 @@
-<?php
+<?php // SPDX-License-Identifier: MIT
 
 // Prints a script whose arguments PHP's own serialize has written:
 //

@@ -1,4 +1,4 @@
-<?php
+<?php // SPDX-License-Identifier: MIT
 foreach (['a', 'b', 'c'] as $key) apcu_store($key, str_repeat('x', 300_000));
 sleep(2);
 apcu_fetch('a');

@@ -1,4 +1,4 @@
-<?php
+<?php // SPDX-License-Identifier: MIT
 
 // php join.php [--one] FOLDER > INPUT
 // One input of apcu_run from the scripts of several processes: a worker for each, in the order in which they started.

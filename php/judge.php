@@ -1,4 +1,4 @@
-<?php
+<?php // SPDX-License-Identifier: MIT
 
 // php judge.php [--program PATH] [--server NAME] FOLDER
 // Judges what the extension recorded with apc.record_dir: whether each reply is the one of the cache at its place. The

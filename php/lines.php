@@ -1,4 +1,4 @@
-<?php
+<?php // SPDX-License-Identifier: MIT
 
 // Lines of scripts and of what apcu_run prints. A string in them may have line feeds of its own.
 

@@ -1,4 +1,4 @@
-<?php
+<?php // SPDX-License-Identifier: MIT
 
 // Set as auto_prepend_file, this records the APCu calls of a PHP site as scripts of apcu_run, one file a process.
 // docs/RECORD.md says how. It needs the extensions apcu and uopz, and PHP 8.1 or later.

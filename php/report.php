@@ -1,4 +1,4 @@
-<?php
+<?php // SPDX-License-Identifier: MIT
 
 // php report.php [--program PATH] [--html FILE] [--try "OPTIONS"].. INPUT
 // Plays an input of apcu_run once for each setting, and prints what came of it, as a table and as an HTML page, which also

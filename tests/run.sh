@@ -1,4 +1,5 @@
 #!/usr/bin/env bash
+# SPDX-License-Identifier: MIT
 # Plays the stored runs of this folder on the built program and compares what it prints, by cram: README.md
 # Usage: tests/run.sh [PROGRAM [FILE.t..]]; PROGRAM is by default crates/apcu_run/out/apcu_run. It needs python3-cram.
 # The last line is 'N passed, N failed'. Statuses: 0 if none failed, 1 if one did, 69 if there is no cram or no program.

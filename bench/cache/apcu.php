@@ -1,4 +1,4 @@
-<?php
+<?php // SPDX-License-Identifier: MIT
 // What PHP's APCu takes for the calls that apcu_bench measures, under the same keys and with the same values. With
 // ROWS it prints for each kind of call several times the picoseconds of one, and how many calls did not answer false;
 // with `clear ROWS` that of dropping all rows, and of dropping them because their time is over, and with `info ROWS`

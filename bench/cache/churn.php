@@ -1,4 +1,4 @@
-<?php
+<?php // SPDX-License-Identifier: MIT
 // What `run.sh` measures of stores into a cache that is kept at four fifths: before each store of a new row random rows
 // are deleted until it finds room below that. Prints the median of so many stores and the times that one in a hundred,
 // in a thousand and in ten thousand pass, in picoseconds.

@@ -1,3 +1,4 @@
+# SPDX-License-Identifier: MIT
 # What calls of the cache over words in memory take, ours and PHP's; run.sh and goals.sh read this file. They set
 # `scratch`, a folder of their own, and read quiet.sh before.
 

@@ -1,4 +1,5 @@
 #!/usr/bin/env bash
+# SPDX-License-Identifier: MIT
 # Nanoseconds a call of the cache over words in memory at 1,000, 100,000 and 1,000,000 rows, with as many slots; beside
 # it in the same run PHP's APCu where it is installed, with as many. Of ten rows one has a text of 8 bytes, one a text
 # of 100, and eight a truth value; the calls go over all keys of a text, each time in another random order. `replace`

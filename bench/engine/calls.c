@@ -1,3 +1,4 @@
+/* SPDX-License-Identifier: MIT */
 /* See calls.h. Each call asks the clock for its second, as APCu's functions do. */
 #include "calls.h"
 

@@ -1,3 +1,4 @@
+/* SPDX-License-Identifier: MIT */
 /* The calls that are measured, of this repository's engine and of APCu's. */
 #ifndef CALLS_H
 #define CALLS_H

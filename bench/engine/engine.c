@@ -1,3 +1,4 @@
+/* SPDX-License-Identifier: MIT */
 /* Times of this repository's engine, by the library for C, and of APCu's, by its own C functions:
  * a module for PHP, since APCu's engine stands in one. Both are called in the same loops, with the
  * same keys and values, batch by batch in turn.

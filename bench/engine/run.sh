@@ -1,4 +1,5 @@
 #!/usr/bin/env bash
+# SPDX-License-Identifier: MIT
 # Nanoseconds a call of this repository's engine beside APCu's engine at 1,000 and 100,000 rows: ours by the library for
 # C, APCu's by its own C functions, both called in the same C loops in one process of PHP, so that no part of PHP's own
 # loop is in any figure. Ours is called with a robust lock of all processes round each call (`locked`) and with none

@@ -1,4 +1,4 @@
-<?php
+<?php // SPDX-License-Identifier: MIT
 
 // Times of PHP's calls of a cache, in one process: php calls.php KEY_BYTES ROWS names|times
 // prints the calls' names, one a line, or their times, nanoseconds of the processor each, in one line: the least of so

@@ -1,4 +1,4 @@
-<?php
+<?php // SPDX-License-Identifier: MIT
 
 // Load on a php-fpm whose workers are killed, one each second, and a judgement of each reply:
 // php hours.php SOCKET SCRIPT MASTER MINUTES CLIENTS PAUSE

@@ -1,4 +1,5 @@
 #!/usr/bin/env bash
+# SPDX-License-Identifier: MIT
 # php-fpm with eight workers under load for so many minutes, while one of them is killed each second: each reply is
 # judged by a value that tells its key and its number (hours.php). A line a minute, and one of all. The status is 1
 # where a reply was wrong, none came in ten seconds, or the server ended.

@@ -1,4 +1,4 @@
-<?php
+<?php // SPDX-License-Identifier: MIT
 
 // Times of a fetch of large values, in one process: php kept.php names|fetch|changed|store|include|memory FOLDER
 // `fetch` is from the cache, `changed` a store and a fetch, and `include` that of a PHP file in FOLDER which returns the

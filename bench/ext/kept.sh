@@ -1,4 +1,5 @@
 #!/usr/bin/env bash
+# SPDX-License-Identifier: MIT
 # Processor time of a fetch of large values with apc.kept_size and without, compared with PHP's APCu under each of its
 # serializers and with `include` of a file that opcache has; then what a value costs that another process replaces before
 # each fetch; then the memory of a process that has fetched 50 configurations three times each.

@@ -1,4 +1,4 @@
-<?php
+<?php // SPDX-License-Identifier: MIT
 
 // Calls of many processes on one cache, each kind of work for some time: php processes.php PROCESSES MILLISECONDS
 // names|times prints the names of the works, one a line; or in one line, for each work, nanoseconds of the clock for

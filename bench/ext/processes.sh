@@ -1,4 +1,5 @@
 #!/usr/bin/env bash
+# SPDX-License-Identifier: MIT
 # Calls a second of 2, 4, 8 and 16 processes on one cache, and the longest call, beside PHP's APCu, in turn in one
 # run: fetches of three sizes, one counter, nine fetches and a store. A first ratio is ours / APCu's of the time
 # between two calls, a second one of the longest. The rows of `nothing` are the machine's own: with more processes

@@ -1,3 +1,4 @@
+# SPDX-License-Identifier: MIT
 # php-fpm and nginx of a script's own, in its scratch folder; scripts of this folder read this file behind
 # ../../php/ext/checks/common.sh.
 version=$(php -r 'echo PHP_MAJOR_VERSION, ".", PHP_MINOR_VERSION;')

@@ -1,4 +1,5 @@
 #!/usr/bin/env bash
+# SPDX-License-Identifier: MIT
 # Several servers: two masters of php-fpm, each with a cache of its own, before one redis-server, by Symfony's
 # ChainAdapter (site/products.php, which is all that a site needs). It shows which server's row each sees when rows
 # are loaded, changed, deleted and over; and times of a hit here, a hit there, and a miss that stores in both, beside

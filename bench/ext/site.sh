@@ -1,4 +1,5 @@
 #!/usr/bin/env bash
+# SPDX-License-Identifier: MIT
 # A site behind nginx and php-fpm with eight workers, under the load of wrk, over ours and over PHP's APCu in turn:
 # the shop of ../record/site and a page of Symfony's cache (site/symfony.php), each with an ample cache and with one
 # that has room for a part of the pages. A ratio is ours / APCu's of the time between two requests. How often memory

@@ -1,3 +1,4 @@
+/* SPDX-License-Identifier: MIT */
 /* What a program in C takes for the calls of such a cache: the same rows of a head of twelve words,
  * key and value in 32 MB of words, the same hash and chains, blocks taken from the first gap that
  * fits, gaps that join, and an index of the gaps. It has no lock, copies no value into a graph,

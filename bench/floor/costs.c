@@ -1,3 +1,4 @@
+/* SPDX-License-Identifier: MIT */
 /* What the parts of a call cost on this machine: locks, atomic steps, a division, memory. Prints
  * lines "PICOSECONDS PART": the least of a hundred rounds of all parts. Then what a page costs that
  * is written for the first time, and the longest that one turn of an empty loop takes of 100,000,

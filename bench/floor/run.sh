@@ -1,4 +1,5 @@
 #!/usr/bin/env bash
+# SPDX-License-Identifier: MIT
 # Floors in C, which hold no promise and only tell what this machine gives: what locks, atomic steps and fresh memory cost
 # (costs.c), what the calls of a cache take over the same words and rows with an index of gaps and no lock (cache.c), and
 # what it takes to print fetched texts where all output is held, where it is written as a buffer fills, and where none is

@@ -1,3 +1,4 @@
+/* SPDX-License-Identifier: MIT */
 /* What the host alone does to a loop that touches no memory: the longest of so many turns of some
  * 2 us each. Whoever measures the longest of as many calls has this in it.
  * Usage: turns COUNT. Prints the picoseconds of the longest turn. */

@@ -1,4 +1,4 @@
-<?php
+<?php // SPDX-License-Identifier: MIT
 // The calls of a generated run, with PHP's APCu in forked processes that share one segment: each draws its numbers
 // first, and then all make their calls. Prints the counters, a line each as `apcu_run --generate` prints them, and last
 // the nanoseconds a call, from the first start to the last end.

@@ -1,3 +1,4 @@
+# SPDX-License-Identifier: MIT
 # What a generated run takes, ours and PHP's; run.sh and goals.sh read this file. They set `scratch`, a folder of their
 # own, and read quiet.sh before.
 generated_seed=7

@@ -1,4 +1,5 @@
 #!/usr/bin/env bash
+# SPDX-License-Identifier: MIT
 # Nanoseconds a call of generated runs with 1, 2 and 4 workers, and in the same run the same calls in PHP on its APCu,
 # in as many forked processes (where php with apcu and pcntl is installed); and the most memory that a run of 64 workers
 # takes. `run` is the whole program, which draws each call before it makes it, without what a run of no calls takes;

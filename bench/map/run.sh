@@ -1,4 +1,5 @@
 #!/usr/bin/env bash
+# SPDX-License-Identifier: MIT
 # The time of a cache's map: runs with and without --map 1, in turn, in a cache of 128 MB with half a million and with a
 # million rows, of which each tenth was deleted again, so that there are as many free runs. Twice the rows should take
 # twice the time: the rows are walked once and sorted by their places.

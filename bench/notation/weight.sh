@@ -1,4 +1,5 @@
 #!/usr/bin/env bash
+# SPDX-License-Identifier: MIT
 # Bytes of memory for each place of a graph of a million integers: the most that apcu_run held while it read and stored
 # its text, less the text itself and what a run without a script holds. Needs GNU time.
 # Usage: bench/notation/weight.sh [PROGRAM]

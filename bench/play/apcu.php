@@ -1,4 +1,4 @@
-<?php
+<?php // SPDX-License-Identifier: MIT
 // What `run.sh` plays, with PHP's APCu in forked processes that share one segment. Prints the microseconds of all calls.
 // Usage: apcu.php apart|one|counter|text WORKERS CALLS BYTES EVERY
 [, $kind, $workers, $calls, $bytes, $every] = $argv;

@@ -1,3 +1,4 @@
+# SPDX-License-Identifier: MIT
 # What scripts take, ours and PHP's calls; run.sh and goals.sh read this file. They set `scratch`, a folder of their
 # own, and read quiet.sh before.
 . "$(dirname "${BASH_SOURCE[0]}")/scripts.sh"

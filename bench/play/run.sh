@@ -1,4 +1,5 @@
 #!/usr/bin/env bash
+# SPDX-License-Identifier: MIT
 # Calls a second of many workers on one cache: apcu_run with 1, 2 and 4 workers, and in the same run PHP's APCu with as
 # many forked processes (where php with apcu and pcntl is installed). Half of the calls fetch, a quarter stores and a
 # quarter counts; each worker has keys of its own (`apart`), or all have one key and one counter (`one`). Then all

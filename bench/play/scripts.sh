@@ -1,3 +1,4 @@
+# SPDX-License-Identifier: MIT
 # Scripts whose calls are counted by the second or judged; programs of bench/ and checks/ read this file.
 
 # Scripts of so many workers with so many calls.

@@ -1,4 +1,5 @@
 #!/usr/bin/env bash
+# SPDX-License-Identifier: MIT
 # The time and memory of a run that loads a bundle of some 64 MB, and one of half as many records, into a cache of 128 MB
 # that has room for all; beside it those of a run whose script stores the same rows, where that script is no longer than
 # an input may be. A record is a key of 8 bytes and a text of 100.

@@ -1,4 +1,4 @@
-<?php
+<?php // SPDX-License-Identifier: MIT
 
 // php cost.php COUNT: stores and fetches so many values of 100 bytes.
 

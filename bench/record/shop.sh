@@ -1,4 +1,5 @@
 #!/usr/bin/env bash
+# SPDX-License-Identifier: MIT
 # Records the shop in site/: PHP's own server with five processes, and four clients that make so many visits each.
 # Usage: bench/record/shop.sh FOLDER [VISITS]; it needs php-apcu and php-uopz.
 set -eum

@@ -1,4 +1,4 @@
-<?php
+<?php // SPDX-License-Identifier: MIT
 
 // php visits.php URL COUNT SEED: makes so many visits to the shop in site/. Few products are asked for often, most of
 // them seldom.

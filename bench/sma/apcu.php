@@ -1,4 +1,4 @@
-<?php
+<?php // SPDX-License-Identifier: MIT
 // What APCu's own allocator does in 32 MB that small values filled once: the time of a store, and what it answers, when
 // two of each three entries were deleted, and when one of five was, at random.
 // Run with: php -d apc.enable_cli=1 -d apc.shm_size=32M -d apc.ttl=7200 apcu.php

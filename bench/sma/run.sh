@@ -1,4 +1,5 @@
 #!/bin/sh
+# SPDX-License-Identifier: MIT
 # Nanoseconds of giving a block and taking one of its size in 32 MB of words among so many gaps: by the index, among 64
 # blocks (words in the processor's cache) and among 300,000, and by a walk over all blocks and gaps; and milliseconds of
 # a `keep` of 64 blocks. Then, where PHP with APCu is installed, what APCu's own allocator does.

@@ -1,4 +1,5 @@
 #!/usr/bin/env bash
+# SPDX-License-Identifier: MIT
 # Writes the engine as assembly text, cache_c.x86_64.s and cache_c.aarch64.s in this folder, so that it is built without
 # Rattle's kit. ../../prove --library proves the crates and builds the library for each processor; clang writes the text
 # of what it compiles. In front of it stand the verdicts and the checksums of the sources.

@@ -1,4 +1,4 @@
-<?php
+<?php // SPDX-License-Identifier: MIT
 // Random calls on few keys: php fuzz.php moment|seconds|workers SEED COUNT script|printed
 // prints a script of so many calls, or plays them on PHP's APCu and prints what apcu_run has to print of their replies.
 // Over `seconds` some lines set the time, for which this waits as long, and the calls are left out that PHP answers

@@ -1,4 +1,5 @@
 #!/usr/bin/env bash
+# SPDX-License-Identifier: MIT
 # Random calls on few keys are answered as PHP's APCu answers them: those of a moment; those of some twenty seconds, in
 # which rows expire; and those of four workers at once, which PHP makes one by one in the order of the printed journal.
 # What docs/DIFFERENCES.md names is left out, and how many bytes rows take.

@@ -1,4 +1,4 @@
-<?php
+<?php // SPDX-License-Identifier: MIT
 // Random values as PHP's serialize writes them: php fuzz.php SEED COUNT script|printed
 // prints a script that stores and fetches each, or what apcu_run has to print for it.
 

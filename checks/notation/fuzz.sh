@@ -1,4 +1,5 @@
 #!/usr/bin/env bash
+# SPDX-License-Identifier: MIT
 # Random values that PHP's serialize writes are stored and fetched, and come back byte for byte.
 # Usage: checks/notation/fuzz.sh [SEEDS [PROGRAM]]; it needs php.
 set -eu

@@ -1,4 +1,4 @@
-<?php
+<?php // SPDX-License-Identifier: MIT
 
 // php play.php SCRIPT
 // Plays a script of one worker on PHP's APCu: its pools' lines with the class Pool, and those that look at a key beside

@@ -1,4 +1,4 @@
-<?php
+<?php // SPDX-License-Identifier: MIT
 
 // A pool of PSR-16 over PHP's APCu: the pool p keeps its key k under {p}k. The braces are reserved in a pool's keys.
 

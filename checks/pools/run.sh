@@ -1,4 +1,5 @@
 #!/usr/bin/env bash
+# SPDX-License-Identifier: MIT
 # Random calls of pools are answered as a PSR-16 cache over PHP's APCu answers them, reply by reply: those of a moment,
 # and those of some twenty seconds in which rows expire. What is no name or key of a pool is refused by both.
 # Usage: checks/pools/run.sh [SEEDS [PROGRAM]]; it needs php with apcu.

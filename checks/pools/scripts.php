@@ -1,4 +1,4 @@
-<?php
+<?php // SPDX-License-Identifier: MIT
 
 // php scripts.php moment|seconds SEED COUNT: a script of one worker with so many random calls of three pools, whose keys
 // are few, and with looks at keys of the cache. Over `seconds` some lines set the time.

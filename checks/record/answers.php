@@ -1,4 +1,4 @@
-<?php
+<?php // SPDX-License-Identifier: MIT
 
 // Calls of APCu as sites make them, wrong ones among them, and what each answers, throws or warns of. With the recorder
 // and without it this prints the same.

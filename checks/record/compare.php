@@ -1,4 +1,4 @@
-<?php
+<?php // SPDX-License-Identifier: MIT
 
 // php compare.php SCRIPT REPLIES OUTPUT
 // Compares what apcu_run printed for a script of one process with what APCu answered. Differences are counted by the row

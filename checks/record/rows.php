@@ -1,4 +1,4 @@
-<?php
+<?php // SPDX-License-Identifier: MIT
 
 // Which row of docs/DIFFERENCES.md names a difference.
 

@@ -1,4 +1,5 @@
 #!/usr/bin/env bash
+# SPDX-License-Identifier: MIT
 # Debian's suites for PSR-6 and PSR-16 over Symfony's cache on PHP's APCu, with and without php/record.php: the results
 # are the same. What the recorder, join.php, report.php and map.php can't read or write is one line. Where a program is
 # given, it plays what was recorded, random calls too, and each reply is compared with APCu's; and a report is made of

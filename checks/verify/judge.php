@@ -1,4 +1,4 @@
-<?php
+<?php // SPDX-License-Identifier: MIT
 
 // php judge.php PROGRAM COUNT SCRIPTS..
 // Plays these scripts and so many random ones, and lets the program judge its own outputs with --verify: each is `yes`,

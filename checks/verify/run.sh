@@ -1,4 +1,5 @@
 #!/usr/bin/env bash
+# SPDX-License-Identifier: MIT
 # The program judges its own outputs with --verify: each one is `yes`, of the examples, of the scripts of calls/, pools/
 # and bench/play and of random ones of 1 to 64 workers; and none is that has been changed in a way that leaves no legal
 # one. Then the time and memory that a verdict takes on 64 MB of scripts and their output, beside the run

@@ -1,4 +1,4 @@
-<?php
+<?php // SPDX-License-Identifier: MIT
 
 // Random scripts, and the options to play them with: the same for the same number.
 // php scripts.php SEED prints one, and its options on standard error.

@@ -1,4 +1,4 @@
-<?php
+<?php // SPDX-License-Identifier: MIT
 
 // A folder of files NAME.data, each a serialized value, as a bundle on standard output: the folder
 // that apc.preload_path names. A file's name without .data is its key.

@@ -1,4 +1,4 @@
-<?php
+<?php // SPDX-License-Identifier: MIT
 
 // The files that the extension writes with apc.record_dir, one a process. docs/RECORD.md has their form.
 

@@ -1,4 +1,4 @@
-<?php
+<?php // SPDX-License-Identifier: MIT
 
 // An input of apcu_run from what the extension recorded: its first stretch.
 

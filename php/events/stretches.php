@@ -1,4 +1,4 @@
-<?php
+<?php // SPDX-License-Identifier: MIT
 
 // A stretch is a run of events that begins with an empty cache: with the cache's first one, or with a call that clears it.
 

@@ -1,3 +1,4 @@
+/* SPDX-License-Identifier: MIT */
 /* The interface by which another extension registers a serializer for apc.serializer. Its names are those that
  * extensions written for APCu use. Include it after php.h. */
 #ifndef APC_SERIALIZER_H

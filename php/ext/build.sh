@@ -1,4 +1,5 @@
 #!/bin/sh
+# SPDX-License-Identifier: MIT
 # Builds the extension, modules/apcu.so, by phpize, configure and make in a copy of its source package.
 #
 #   php/ext/build.sh

@@ -1,3 +1,4 @@
+/* SPDX-License-Identifier: MIT */
 /* The engine: the assembly text for the processor that is compiled for. */
 #if defined(__x86_64__) && !defined(__ILP32__)
 # include "cache_c.x86_64.s"

@@ -1,3 +1,4 @@
+/* SPDX-License-Identifier: MIT */
 /* The locks round callbacks of apcu_entry.
  *
  * Keys are spread over groups, and each group has a lock, so a slow callback keeps only callers of keys

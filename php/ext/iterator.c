@@ -1,3 +1,4 @@
+/* SPDX-License-Identifier: MIT */
 #include "php_apcu.h"
 
 #include "ext/pcre/php_pcre.h"

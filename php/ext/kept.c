@@ -1,3 +1,4 @@
+/* SPDX-License-Identifier: MIT */
 /* Kept values: arrays and long strings that a process has built of a row's bytes, and returns again as long as the
  * row has the same stamp.
  *

@@ -1,3 +1,4 @@
+/* SPDX-License-Identifier: MIT */
 /* The extension apcu: the functions, the class and the settings of APCu, over the cache of cache_c. */
 #ifndef PHP_APCU_H
 #define PHP_APCU_H

@@ -1,3 +1,4 @@
+/* SPDX-License-Identifier: MIT */
 /* A file is text: lines that say whose it is, and for each event two lines, the call in the words of
  * scripts with the event's number in front, and its reply. Keys and values are those of the cache: a
  * string has the byte behind it that says what it is. docs/RECORD.md has the whole form.

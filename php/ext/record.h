@@ -1,3 +1,4 @@
+/* SPDX-License-Identifier: MIT */
 /* The record of what the cache was asked and what it answered: with apc.record_dir each process writes
  * a file, of which php/judge.php tells whether each answer was the right one. */
 #ifndef APCU_RECORD_H

@@ -1,3 +1,4 @@
+/* SPDX-License-Identifier: MIT */
 /* The memory that all processes of one fork share: a cache, the lock round its calls, and the locks
  * round callbacks of apcu_entry. */
 #ifndef APCU_SHM_H

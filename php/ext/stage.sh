@@ -1,4 +1,5 @@
 #!/bin/sh
+# SPDX-License-Identifier: MIT
 # Copies the source package of the extension into a folder: the extension, its tests, the headers and the assembly text
 # of the engine. phpize works there, and so does `pecl package`.
 #
@@ -26,7 +27,7 @@ cp "$top/LICENSE" "$top/CHANGELOG.md" "$1/"
 rm -f "$1/config.h" # of a build in the folder itself
 
 cd "$1"
-find . -type f | LC_ALL=C sort | sed -e 's,^\./,,' \
+find . -type f ! -name .contents | LC_ALL=C sort | sed -e 's,^\./,,' \
     -e 's,^tests/.*,   <file name="&" role="test"/>,' -e 's,^[A-Z]*\(\.md\)*$,   <file name="&" role="doc"/>,' \
     -e 's,^[^ ].*,   <file name="&" role="src"/>,' > .contents
 sed -e '/@CONTENTS@/{r .contents' -e 'd}' "$ext/package.xml.in" > package.xml

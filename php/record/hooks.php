@@ -1,4 +1,4 @@
-<?php
+<?php // SPDX-License-Identifier: MIT
 
 // A hook of uopz runs before the function whose name it has, and the function then runs as if there were none: its
 // arguments, its answer and what it throws stay as they are. No hook throws.

@@ -1,4 +1,4 @@
-<?php
+<?php // SPDX-License-Identifier: MIT
 
 // No strict types: they would turn back what a site without them may hand over.
 

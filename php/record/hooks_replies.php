@@ -1,4 +1,4 @@
-<?php
+<?php // SPDX-License-Identifier: MIT
 
 // For tests: beside each line of the script, what APCu answered, as apcu_run prints it. Each call is made from here, so
 // a wrong call of a site with strict types may be taken, and a call inside another one of its name is not seen.

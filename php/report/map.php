@@ -1,4 +1,4 @@
-<?php
+<?php // SPDX-License-Identifier: MIT
 
 // The map that apcu_run prints with --map 1, and a picture of it.
 

@@ -1,4 +1,4 @@
-<?php
+<?php // SPDX-License-Identifier: MIT
 
 // The report as one HTML file: a section for each column, with a bar for each setting, and the map of each.
 

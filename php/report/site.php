@@ -1,4 +1,4 @@
-<?php
+<?php // SPDX-License-Identifier: MIT
 
 // What a folder of a recorder tells beside the calls: the site's own setting, what its APCu counted, what was left out.
 

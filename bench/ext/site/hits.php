@@ -1,4 +1,4 @@
-<?php
+<?php // SPDX-License-Identifier: MIT
 
 // Misses in a hundred fetches since all rows last went, by a call or for want of room, how often rows were dropped for
 // want of room, and how many rows there are. With `?clear` it clears first.

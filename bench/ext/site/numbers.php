@@ -1,4 +1,4 @@
-<?php
+<?php // SPDX-License-Identifier: MIT
 
 // What hours.php asks workers for: `?key=K` gives the value under a key, `?key=K&number=N` stores one that tells
 // both, and `?anew` says how often the cache was made anew after a kill.

@@ -1,4 +1,4 @@
-<?php
+<?php // SPDX-License-Identifier: MIT
 
 // A cache of several servers: this server's rows in shared memory, for ten seconds, and all servers' rows in Redis,
 // for an hour.

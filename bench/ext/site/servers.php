@@ -1,4 +1,4 @@
-<?php
+<?php // SPDX-License-Identifier: MIT
 
 // What servers.sh asks a server for: `?product=N` tells who loaded a product's row, `&change` stores another first
 // and `&delete` deletes it, here and there; `?times` tells microseconds of a hit here, a hit there and a miss,

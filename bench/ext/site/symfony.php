@@ -1,4 +1,4 @@
-<?php
+<?php // SPDX-License-Identifier: MIT
 
 // A page whose parts are kept by Symfony's cache over APCu: settings and a product, each made where it is not there.
 

@@ -1,4 +1,4 @@
-<?php
+<?php // SPDX-License-Identifier: MIT
 
 // A small shop for PHP's own server, which keeps pages, counters, settings and sessions in APCu:
 // php -S localhost:8000 -t site

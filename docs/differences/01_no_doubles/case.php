@@ -1,3 +1,3 @@
-<?php
+<?php // SPDX-License-Identifier: MIT
 apcu_store('a', 1.5);
 var_dump(apcu_fetch('a'));

@@ -1,4 +1,4 @@
-<?php
+<?php // SPDX-License-Identifier: MIT
 class A {
     public $x = 1;
     function __wakeup() { $this->x = 2; }

@@ -1,4 +1,4 @@
-<?php
+<?php // SPDX-License-Identifier: MIT
 apcu_store('a', 1, 1);
 apcu_store('b', 1, 1);
 sleep(3);

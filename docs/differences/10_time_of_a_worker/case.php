@@ -1,4 +1,4 @@
-<?php
+<?php // SPDX-License-Identifier: MIT
 apcu_store('a', 1, 1);
 if (pcntl_fork() == 0) {
     sleep(3);

@@ -1,4 +1,4 @@
-<?php
+<?php // SPDX-License-Identifier: MIT
 // apc.ttl=1
 apcu_store('Ez', 1);
 apcu_store('FY', 2);

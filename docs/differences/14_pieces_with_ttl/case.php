@@ -1,4 +1,4 @@
-<?php
+<?php // SPDX-License-Identifier: MIT
 // apc.shm_size=1M, apc.ttl=100
 for ($i = 0; apcu_sma_info(true)['avail_mem'] > 2000; $i++)
     apcu_store("k$i", str_repeat('x', 1000));

@@ -1,4 +1,4 @@
-<?php
+<?php // SPDX-License-Identifier: MIT
 apcu_store('a', 1);
 apcu_store('b', array_fill(0, 1000, [1]));
 foreach (apcu_cache_info()['cache_list'] as $row)

@@ -1,4 +1,4 @@
-<?php
+<?php // SPDX-License-Identifier: MIT
 foreach (['a1', 'a2'] as $key) apcu_store($key, 1);
 $all = new APCUIterator('/^a/');
 foreach ($all as $key => $row) echo $key, "\n";

@@ -1,4 +1,4 @@
-<?php
+<?php // SPDX-License-Identifier: MIT
 apcu_store('a', 1);
 $all = new APCUIterator();
 foreach ($all as $row) echo implode(' ', array_keys($row)), "\n";

@@ -1,4 +1,4 @@
-<?php
+<?php // SPDX-License-Identifier: MIT
 apcu_store('5', 'x');
 $r = apcu_fetch(['5']);
 echo serialize($r), "\n";

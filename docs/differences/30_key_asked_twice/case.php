@@ -1,4 +1,4 @@
-<?php
+<?php // SPDX-License-Identifier: MIT
 apcu_store('a', 1);
 apcu_store('b', 2);
 echo serialize(apcu_exists(['a', 'b', 'a'])), "\n";

@@ -1,4 +1,4 @@
-<?php
+<?php // SPDX-License-Identifier: MIT
 apcu_store('5', 'x');
 var_dump(apcu_fetch(5));
 var_dump(apcu_store(5, 'y'));

@@ -1,4 +1,4 @@
-<?php
+<?php // SPDX-License-Identifier: MIT
 $v = new stdClass;
 $v->n = 1;
 echo serialize(apcu_store(['a' => $v, 'b' => $v])), "\n";

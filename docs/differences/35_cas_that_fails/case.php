@@ -1,4 +1,4 @@
-<?php
+<?php // SPDX-License-Identifier: MIT
 apcu_store('a', 1);
 sleep(2);
 var_dump(apcu_cas('a', 7, 8));

@@ -1,4 +1,4 @@
-<?php
+<?php // SPDX-License-Identifier: MIT
 $a = [];
 $a[0] = &$a;
 apcu_store('a', $a);

@@ -1,4 +1,4 @@
-<?php
+<?php // SPDX-License-Identifier: MIT
 apcu_store('a', 1);
 $all = apcu_cache_info();
 echo implode(' ', array_keys($all)), "\n";

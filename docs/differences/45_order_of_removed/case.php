@@ -1,4 +1,4 @@
-<?php
+<?php // SPDX-License-Identifier: MIT
 class Row { function __construct(public $key) {} function __wakeup() { apcu_delete($this->key); } }
 foreach (['a', 'b'] as $key) apcu_store($key, new Row($key));
 foreach (['a', 'b'] as $key) apcu_fetch($key);

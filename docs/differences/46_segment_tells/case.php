@@ -1,4 +1,4 @@
-<?php
+<?php // SPDX-License-Identifier: MIT
 // apc.shm_size=32M
 foreach (['a', 'b', 'c', 'd'] as $key) apcu_store($key, 1);
 apcu_delete('c');

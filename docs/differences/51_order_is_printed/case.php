@@ -1,4 +1,4 @@
-<?php
+<?php // SPDX-License-Identifier: MIT
 if (pcntl_fork() == 0) {
     apcu_store('a', 'child');
 } else {

@@ -1,1 +1,2 @@
+# SPDX-License-Identifier: MIT
 yes worker | head -65 | ./apcu_run

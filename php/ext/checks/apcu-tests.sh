@@ -1,4 +1,5 @@
 #!/usr/bin/env bash
+# SPDX-License-Identifier: MIT
 # APCu's own tests over PHP's APCu and over this extension, both in one harness: PHP's run-tests.php, with no settings
 # but the extension. They come from Debian's source package when this is run; SOURCE=FOLDER in the environment is such
 # a source that is there. Each test is told that one of both doesn't pass, and a test that APCu passes alone is a

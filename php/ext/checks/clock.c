@@ -1,3 +1,4 @@
+/* SPDX-License-Identifier: MIT */
 /* A clock that stands: loaded before a program (LD_PRELOAD), it answers each question for the time with the seconds
  * that stand in the file CLOCK_FILE, eight bytes, least first. So rows grow old when a script writes that file, and two
  * runs meet the same moments. Without the file the clock is the system's. For checks only. */

@@ -1,3 +1,4 @@
+# SPDX-License-Identifier: MIT
 # What the scripts of this folder share. A script sets `here`, its folder, before it reads this file. The extension that
 # is looked at is the first argument of each, or APCU_SO in the environment, or what ../build.sh left; APCU_BASE is
 # PHP's APCu beside it, or else the one that PHP loads.

@@ -1,4 +1,4 @@
-<?php
+<?php // SPDX-License-Identifier: MIT
 
 // A small client of FastCGI over a local socket: asks a script, so many times in so many processes.
 // php fcgi.php SOCKET SCRIPT COUNT PROCESSES [QUERY]

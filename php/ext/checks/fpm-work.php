@@ -1,4 +1,4 @@
-<?php
+<?php // SPDX-License-Identifier: MIT
 
 // What a worker of php-fpm is asked for: some five hundred calls (work.php), and whether all of them were answered well.
 // With `?anew` it says how often the cache was made anew.

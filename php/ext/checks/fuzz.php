@@ -1,4 +1,4 @@
-<?php
+<?php // SPDX-License-Identifier: MIT
 
 // Random calls of PHP: php fuzz.php moment|times|four SEED COUNT
 // prints a digest of each thousand answers, so that two extensions can be compared; with TRACE=1 in the environment

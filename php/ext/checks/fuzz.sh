@@ -1,4 +1,5 @@
 #!/usr/bin/env bash
+# SPDX-License-Identifier: MIT
 # A million random calls of one process, and a million of four that take turns, are answered by an extension as by
 # PHP's APCu: what a call gives or throws, its warnings and the hooks of objects it runs. Of the first, half are of a
 # moment, under each serializer, and over half time moves, with apc.ttl and without. Time is a file (clock.c), so that

@@ -1,4 +1,4 @@
-<?php
+<?php // SPDX-License-Identifier: MIT
 
 // Asks a page of a server in several processes: php kept-clients.php ADDRESS COUNT PROCESSES
 // Each answer is "ok FETCHES PROCESS HITS"; HITS of a process of the server rise. Prints the sums; its status is 1 if

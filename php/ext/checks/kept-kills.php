@@ -1,4 +1,4 @@
-<?php
+<?php // SPDX-License-Identifier: MIT
 
 // Kept values and other processes. Processes are killed inside calls that store, until a cache was made again that often:
 // a value that this process was given stays the same, and so does what it is given later. Then the row of a value that a

@@ -1,4 +1,4 @@
-<?php
+<?php // SPDX-License-Identifier: MIT
 
 // The language's ways to write, over kept values: each in a process of its own, once with a value that was fetched
 // before and once with a new fetch. Neither the value nor the row changes, also not after the shutdown functions,

@@ -1,4 +1,4 @@
-<?php
+<?php // SPDX-License-Identifier: MIT
 
 // A page whose values say whether they are whole: each is looked at when it is fetched, and again when the page ends.
 

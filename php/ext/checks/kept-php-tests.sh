@@ -1,4 +1,5 @@
 #!/usr/bin/env bash
+# SPDX-License-Identifier: MIT
 # PHP's own tests of the language and of ext/standard, whose arrays are fetched (kept-rewrite.php, kept-prepend.php), have
 # the same outcome with kept values as without: without opcache, with it, and with its JIT. A test counts if it passes
 # without kept values.

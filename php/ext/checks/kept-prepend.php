@@ -1,4 +1,4 @@
-<?php
+<?php // SPDX-License-Identifier: MIT
 
 /** A value as it is fetched the third time; the value itself if it can't be stored, or if it holds an object. */
 function kept_value(mixed $value): mixed

@@ -1,4 +1,4 @@
-<?php
+<?php // SPDX-License-Identifier: MIT
 
 // Rewrites the tests of PHP in a folder, so that their arrays come from the cache: php kept-rewrite.php FOLDER
 // An array that is assigned to a variable, or passed to a function, is an argument of kept_value (kept-prepend.php). No

@@ -1,4 +1,4 @@
-<?php
+<?php // SPDX-License-Identifier: MIT
 
 // What the checks of kept values share: values that this process keeps.
 

@@ -1,4 +1,5 @@
 #!/usr/bin/env bash
+# SPDX-License-Identifier: MIT
 # Kept values stay as they are: PHP's functions, and the language's ways to write, over kept values that can't be written
 # (kept-functions.php, and kept-language.php without opcache, with it, and with its JIT); processes that are killed while
 # they store, and forked ones (kept-kills.php); `php -S` with eight workers in a small cache (kept-page.php).

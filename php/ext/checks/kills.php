@@ -1,4 +1,4 @@
-<?php
+<?php // SPDX-License-Identifier: MIT
 
 // Four processes call the cache, and so many times one of them is killed at any moment and another one takes its
 // place. After each kill a process that is never killed has to be answered, within twenty seconds; no value may be

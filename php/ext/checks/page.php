@@ -1,4 +1,4 @@
-<?php
+<?php // SPDX-License-Identifier: MIT
 
 // Asks a server that runs APCu's status page, as it is, for each of its views, and judges them: the status, that PHP
 // told of nothing, and that each view shows what it is for.

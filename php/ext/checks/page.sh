@@ -1,4 +1,5 @@
 #!/usr/bin/env bash
+# SPDX-License-Identifier: MIT
 # APCu's own status page, apc.php of Debian's source package, runs over an extension as it is: each of its views is
 # asked for and judged (page.php), and its text, but for numbers, is what it is over PHP's APCu. SOURCE=FOLDER in the
 # environment is such a source that is there; SHOTS=FOLDER takes pictures with Chromium, for somebody to look at.

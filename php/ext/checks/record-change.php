@@ -1,4 +1,4 @@
-<?php
+<?php // SPDX-License-Identifier: MIT
 
 // php record-change.php KIND FOLDER: changes what was recorded at one event, in the middle of all, and prints its number.
 // KIND is reply (another number is given), swap (two calls of two processes change their places), left (a call is left

@@ -1,4 +1,4 @@
-<?php
+<?php // SPDX-License-Identifier: MIT
 
 // php record-work.php PROCESSES CALLS SEED: so many processes make so many random calls each, on the same keys. Values have
 // up to some thousand bytes, rows live for a second or two, and some calls wait a little.

@@ -1,4 +1,5 @@
 #!/usr/bin/env bash
+# SPDX-License-Identifier: MIT
 # What the extension records is judged by php/judge.php: each reply is right, of the suites for PSR-6 and PSR-16, of the
 # shop of bench/record, of a minute of wrk on php-fpm with eight workers, and of random calls of some processes. One reply
 # that is changed is found, as are two events whose places are changed, and a call that is left out; a build of the

@@ -1,3 +1,4 @@
+/* SPDX-License-Identifier: MIT */
 /* Lets a stopped process go on for so many instructions and kills it: steps PROCESS COUNT
  * Where it stops itself again before (SIGSTOP), or ends, the number of instructions that it made is printed. */
 #include <errno.h>

@@ -1,4 +1,4 @@
-<?php
+<?php // SPDX-License-Identifier: MIT
 
 // A process is killed at an instruction of a call, one after another, and each time the next process has to find the
 // cache as it was before the call, as it is after it, or empty; and has to be able to use it. Each instruction from the

@@ -1,4 +1,5 @@
 #!/usr/bin/env bash
+# SPDX-License-Identifier: MIT
 # A process that dies at an instruction of a call, whichever it is, leaves the cache as it was before, as it is after, or
 # empty, and the next process can use it (steps.php). Each kind of call is stepped through by ptrace (steps.c), and
 # killed at so many places, one in each part; a long one at moments of its time. The same over PHP's APCu for one call, which is only told.

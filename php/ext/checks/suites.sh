@@ -1,4 +1,5 @@
 #!/usr/bin/env bash
+# SPDX-License-Identifier: MIT
 # Debian's suites for PSR-6 and PSR-16 over Symfony's cache (checks/record/suites) have the same results, test by test,
 # over an extension as over PHP's APCu, under each serializer.
 # Usage: php/ext/checks/suites.sh [SO]; it needs php-apcu, phpunit, php-symfony-cache, php-psr-simple-cache and

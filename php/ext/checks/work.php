@@ -1,4 +1,4 @@
-<?php
+<?php // SPDX-License-Identifier: MIT
 
 // Random calls whose values tell whose they are, for processes that may be killed at any moment. Each call of
 // `work_once` is one or a few calls of the cache; it gives null, or what is wrong with a value that it found.

@@ -1,4 +1,5 @@
 #!/bin/sh
+# SPDX-License-Identifier: MIT
 # Runs apcu_run. The program touches most of its memory once, which costs less in pages of 2 MB.
 if [ "$# ${1:-}" = '1 --version' ]; then
     echo 'apcu_run @VERSION@'

@@ -1,4 +1,5 @@
 #!/bin/sh
+# SPDX-License-Identifier: MIT
 # Writes debian/control for some versions of PHP out of control.in: debian/control.sh VERSION..
 set -eu
 cd "$(dirname "$0")"

@@ -1,4 +1,5 @@
 #!/usr/bin/env bash
+# SPDX-License-Identifier: MIT
 # The quick tests of the extension, by PHP's run-tests.php; each failure with its difference. Over PHP's APCu those are
 # skipped that show what only this extension does.
 # Usage: php/ext/tests/run.sh [SO]; it needs php-dev.
