@@ -20,7 +20,7 @@ static enum { FROM_MALLOC, FROM_MAPPING, FROM_NOWHERE } source;
 /* A message for the log about the cache that took the place of another one, or null. */
 static const char *remade_message;
 
-/* Something waits until the lock is released: events to be recorded, or that message. */
+/* Something waits until the lock is released: events to be written, or that message. */
 static bool has_news;
 
 /* What the library gets when it asks for memory. */
@@ -105,7 +105,6 @@ static void make(void)
 	apcu_shm->words = NULL;
 	apcu_shm->used = sizeof *apcu_shm;
 	memset(&apcu_shm->last, 0, sizeof apcu_shm->last);
-	apcu_shm->events = 0;
 
 	source = FROM_MAPPING;
 	uint8_t *at = take(cache_size());
@@ -245,6 +244,7 @@ static void recover(void)
 			? "apcu: a process died while it changed the cache; an empty one has taken its place"
 			: "apcu: a process died while it changed the cache, and no empty one could be made: there is none until PHP restarts";
 		has_news = true;
+		apcu_record_recover(true);
 		set_busy(false);
 	} else {
 		seats_settle(&apcu_shm->seats);
@@ -252,6 +252,7 @@ static void recover(void)
 		if (apcu_shm->is_made) {
 			cache_get_view(apcu_shm->cache, &apcu_shm->view);
 		}
+		has_news = apcu_record_recover(false);
 	}
 }
 
@@ -336,8 +337,7 @@ cache_answer apcu_ask(const cache_request *request, const zend_string *key, cons
 	}
 	cache_answer answer = cache_ask_hashed(apcu_shm->cache, request,
 		(const uint8_t *) ZSTR_VAL(key), ZSTR_LEN(key), (const uint8_t *) bytes, len);
-	if (UNEXPECTED(apcu_is_recorded)) {
-		apcu_record_note(request, key, bytes, len, &answer);
+	if (UNEXPECTED(apcu_is_recorded) && apcu_record_note(request, key, bytes, len, &answer)) {
 		has_news = true;
 	}
 	if (EXPECTED(request->kind != CACHE_EXISTS)) {
