@@ -105,6 +105,7 @@ static void make(void)
 	apcu_shm->words = NULL;
 	apcu_shm->used = sizeof *apcu_shm;
 	memset(&apcu_shm->last, 0, sizeof apcu_shm->last);
+	apcu_shm->expunges = 0;
 
 	source = FROM_MAPPING;
 	uint8_t *at = take(cache_size());
@@ -328,6 +329,18 @@ static bool may_drop_rows(uint32_t kind)
 	return kind != CACHE_LOOK && kind != CACHE_HOLD && kind != CACHE_EXISTS;
 }
 
+/* An expunge begins the counts of hits, misses and inserts anew, and so the time that they are of. */
+static void note_expunges(void)
+{
+	uint64_t expunges = cache_get_counts(apcu_shm->cache).expunges;
+
+	if (UNEXPECTED(expunges != apcu_shm->expunges)) {
+		apcu_shm->expunges = expunges;
+		apcu_shm->start_time = time(NULL);
+		memset(&apcu_shm->last, 0, sizeof apcu_shm->last);
+	}
+}
+
 cache_answer apcu_ask(const cache_request *request, const zend_string *key, const char *bytes, size_t len)
 {
 	/* A process that is killed in a call that changes nothing leaves the cache whole. */
@@ -342,6 +355,9 @@ cache_answer apcu_ask(const cache_request *request, const zend_string *key, cons
 	}
 	if (EXPECTED(request->kind != CACHE_EXISTS)) {
 		cache_get_view(apcu_shm->cache, &apcu_shm->view);
+	}
+	if (may_drop_rows(request->kind)) {
+		note_expunges();
 	}
 	set_busy(false);
 	return answer;

@@ -23,7 +23,8 @@ typedef struct {
 	volatile bool is_busy;      /* a call that may change it is under way */
 	uint64_t remade;            /* how often a process died in such a call, and the cache was made anew */
 	_Atomic uint64_t stamps;    /* how many stamps were given to values; it goes on in a cache that is made later */
-	time_t start_time;          /* when the cache was made or cleared */
+	time_t start_time;          /* when the cache was made or cleared, or the last expunge was */
+	uint64_t expunges;          /* how many there were by then */
 	struct {
 		zend_ulong hash;
 		size_t len;
