@@ -1,9 +1,9 @@
 <?php
 
-// php record-change.php KIND FOLDER [N]: changes a record at one event, and prints the number of the first that is wrong. KIND is reply (another number
-// is given, by the first apcu_inc from the N. tenth of the events on), swap (two calls on one key change their places), left
-// (a call is left out, and those behind it are numbered as if it had not been), or gone (the same, and its number is
-// missing). Without N it is in the middle.
+// php record-change.php KIND FOLDER [N]: changes a record at one event, and prints the number of the first one that is wrong
+// then. KIND is reply (another number is given, by the first apcu_inc from the N. tenth of the events on), swap (two calls on
+// one key change their places), left (a call is left out, and those behind it are numbered as if it had not been), or gone
+// (the same, and its number is missing). Without N it is in the middle.
 
 declare(strict_types=1);
 
@@ -25,7 +25,7 @@ preg_match('/\A[^\0]*?\n\n/', $record, $found);
 $at = intdiv(count($events) * (int) $tenth, 10);
 [$at, $other] = match ($kind) {
     'reply' => [next_counted($events, $at), null],
-    default => two_counted($events, $at),
+    default => two_counted($events, $at, $kind !== 'swap'),
 };
 [$is, $rest] = $events[$at];
 if ($kind === 'reply') {
@@ -67,14 +67,17 @@ function next_counted(array $events, int $at): int
     return $at;
 }
 
-/** The places of a call that counts and of the next one, on the same key and from another number; nearest behind a place. */
-function two_counted(array $events, int $at): array
+/**
+ * The places of a call that counts and of the next one on the same key, from another number, the nearest behind a place.
+ * Those that are next to one another have no call between that makes up for the first.
+ */
+function two_counted(array $events, int $at, bool $is_next): array
 {
     for ($last = []; $at < count($events); $at++) {
         [$is, $key] = $events[$at];
         if (is_counted($is)) {
             $before = $last[$key] ?? null;
-            if ($before !== null && counted_from($events[$before][0]) !== counted_from($is)) {
+            if ($before !== null && counted_from($events[$before][0]) !== counted_from($is) && (!$is_next || $before === $at - 1)) {
                 return [$before, $at];
             }
             $last[$key] = $at;
