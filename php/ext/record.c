@@ -53,7 +53,7 @@ static ring *all;
 static int file = -1;
 static int folder_file = -1;
 static char name[64], path[4096];
-static pid_t maker;
+static pid_t maker, process; /* of the file; this one */
 static bool is_with_values;
 static uint64_t most; /* bytes of the file */
 
@@ -241,7 +241,7 @@ static record_event event_of(const cache_request *request, size_t key_len, size_
 		.answer = answer->kind == CACHE_STR ? answer->len
 			: answer->kind == CACHE_INT || answer->kind == CACHE_BOOL ? (uint64_t) answer->number : 0,
 		.event = (uint32_t) appended()->events,
-		.process = (uint32_t) getpid(),
+		.process = (uint32_t) process,
 		.key_len = request->kind == CACHE_CLEAR ? 0 : (uint32_t) key_len,
 		.kind = (uint8_t) request->kind,
 		.value = is_store ? (uint8_t) request->value : 0,
@@ -297,7 +297,7 @@ bool apcu_record_recover(bool is_remade)
 	record_event e = {
 		.t = (uint64_t) time(NULL),
 		.event = (uint32_t) appended()->events,
-		.process = (uint32_t) getpid(),
+		.process = (uint32_t) process,
 		.kind = RECORD_REMADE
 	};
 	uint64_t position = next_position();
@@ -361,6 +361,7 @@ static void hook_exec(void)
 
 static void note_child(void)
 {
+	process = getpid();
 	if (all) {
 		all->has_children = true;
 	}
@@ -449,7 +450,7 @@ const char *apcu_record_start(const char *folder, bool has_values, uint64_t limi
 	}
 	is_with_values = has_values;
 	most = limit;
-	maker = getpid();
+	maker = process = getpid();
 	why = make_file(folder, server);
 	if (!why) {
 		void *at = mmap(NULL, sizeof *all, PROT_READ | PROT_WRITE, MAP_SHARED | MAP_ANONYMOUS, -1, 0);
@@ -486,12 +487,12 @@ const char *apcu_record_stop(void)
 	/* The server's own process waits for a worker that still writes. */
 	for (int n = 0; n < 1000 && !told && all->state != FAILED && all->written < appended()->end; n++) {
 		told = flush();
-		if (getpid() != maker || all->written >= appended()->end) {
+		if (process != maker || all->written >= appended()->end) {
 			break;
 		}
 		usleep(1000);
 	}
-	if (getpid() == maker && appended()->events == 0 && !all->has_children) {
+	if (process == maker && appended()->events == 0 && !all->has_children) {
 		unlinkat(folder_file, name, 0);
 	}
 	stop();
