@@ -206,10 +206,6 @@ check_many() {
 }
 
 check_builds() {
-    if [ ! -f "$here/../build/cache_c/libcache_c.a" ]; then
-        echo 'no library of the build: no builds that are wrong'
-        return
-    fi
     wrong uncounted shm.c '	if (UNEXPECTED(apcu_is_recorded) && apcu_record_note' '	static unsigned calls;
 	if (request->kind == CACHE_COUNT && answer.kind == CACHE_INT && ++calls % 50 == 0) {
 		cache_request back = *request;
