@@ -459,7 +459,7 @@ static uint64_t seconds(const extent *all) {
     return all->first == 0 ? 0 : all->last - all->first + 1;
 }
 
-/* A line for a person that waits, who is at a terminal. */
+/* A line of progress, at a terminal. */
 static void tell_progress(const source *in, bool is_done) {
     static time_t last;
     static bool is_told;
@@ -501,7 +501,7 @@ static void tell_wrong(uint8_t *cache, const event *e, const cache_answer *due, 
     printf("event %" PRIu64 ", second %" PRIu64 ", process %u: not the due reply\n", e->number,
            seconds(all), e->is.process);
     if (all->remade > 0)
-        printf("in the cache that was made anew for the %" PRIu64 ". time\n", all->remade);
+        printf("in the empty cache that took the place of another one for the %" PRIu64 ". time\n", all->remade);
     show("call ", texts[0], lens[0]);
     show("given", texts[1], lens[1]);
     show("due  ", texts[2], lens[2]);
@@ -552,7 +552,7 @@ static int judge(source *in) {
     bool is_part = is_interrupted || fault;
     uint64_t events = in->events - all.remade;
     if (all.remade > 0)
-        printf("the cache was made anew %s %s, since a process was killed in a call\n",
+        printf("an empty cache took the place of the old one %s %s, since a process was killed in a call\n",
                shown(all.remade), plural(all.remade, "time", "times"));
     printf("%s %s of %s %s in %s %s: each %sreply is right%s\n", shown(events),
            plural(events, "event", "events"), shown(all.processes),
@@ -562,7 +562,7 @@ static int judge(source *in) {
     return is_part ? IN_PART : RIGHT;
 }
 
-/* What a cache comes to. Its own counts begin anew at an expunge; these do not. */
+/* What a cache comes to. Its own counts begin again at an expunge; these do not. */
 typedef struct {
     uint64_t hits, misses, inserts, refused, expunges;
 } sums;

@@ -24,6 +24,7 @@ VARYING = [
     (r'<!--.*?-->', 'COMMENT'),
     (r'version=[0-9a-z]{5,}|"version":"[0-9a-z]+"', 'VERSION'),
     (r'\b\d+\.\d+ (seconds|MB)', 'MEASURED'),
+    (r'"(cputime|walltime)":"[0-9.]+"|"timingprofile":\[[^]]*\]', 'MEASURED'),
 ]
 
 

@@ -1,7 +1,7 @@
 <?php
 
 // php record-kills.php KILLS: four processes call the cache, each call being one event, until one of them is killed; another
-// one takes its place, until there were so many kills. Then it prints for each process how many of its calls had returned.
+// one takes its place, until there were KILLS kills. Then it prints for each process how many of its calls had returned.
 
 declare(strict_types=1);
 

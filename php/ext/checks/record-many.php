@@ -1,6 +1,6 @@
 <?php
 
-// php record-many.php EVENTS: makes so many calls, of each ten one store, six fetches of rows and one of none, and two counts.
+// php record-many.php EVENTS: makes that number of calls, of each ten one store, six fetches of rows and one of none, and two counts.
 
 declare(strict_types=1);
 
