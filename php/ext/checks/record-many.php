@@ -7,7 +7,7 @@ declare(strict_types=1);
 [, $events] = array_map(intval(...), $argv);
 $value = str_repeat('x', 100);
 for ($n = 0; $n < $events; $n += 10) {
-    $at = $n % 200_003;
+    $at = $n % 20_011;
     apcu_store("key:$at", $value);
     for ($i = 0; $i < 6; $i++) {
         apcu_fetch("key:$at");
