@@ -57,6 +57,7 @@ for program in test forked copies deaths full; do
     cc "${flags[@]}" "$here/$program.c" "$here/shared_cache.c" "$library" -lpthread -o "$scratch/$program"
 done
 cc "${flags[@]}" "$here/reads.c" "$library" -o "$scratch/reads"
+cc "${flags[@]}" "$here/replay.c" "$library" -o "$scratch/apcu_replay"
 # It has an allocator of its own.
 cc "${flags[@]}" "$here/memory.c" "$library" -o "$scratch/memory"
 cc "${flags[@]}" "$here/lanes_model.c" -o "$scratch/lanes_model"

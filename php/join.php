@@ -5,10 +5,6 @@
 // With --one there is one worker, which makes the calls of all processes in the order of their seconds. So the time is
 // the same for all, as it was for the site. Of one second's order only that of each process is known. In place of the
 // folder its files can be named.
-//
-// php join.php [--one] [--output FILE] FOLDER > INPUT
-// The same of what the extension recorded, whose order is known. The file then has what apcu_run would have printed, for
-// its --verify.
 
 declare(strict_types=1);
 
@@ -16,9 +12,7 @@ namespace ApcuRecord;
 
 require __DIR__ . '/lines.php';
 require __DIR__ . '/events/files.php';
-require __DIR__ . '/events/events.php';
 require __DIR__ . '/events/stretches.php';
-require __DIR__ . '/events/joined.php';
 require __DIR__ . '/report/site.php';
 
 /** What the recorder calls full, and nothing is written behind. */
@@ -27,10 +21,9 @@ const USUAL_SLOTS = 4096;
 
 help($argv);
 ini_set('memory_limit', '-1');
-[$is_one, $output, $files] = asked(array_slice($argv, 1));
+[$is_one, $files] = asked(array_slice($argv, 1));
 if (array_filter($files, is_recorded(...)) !== []) {
-    join_recorded($files, $is_one, $output);
-    exit;
+    give_up('that is a record of the extension, which is in order: judge.php and report.php take it as it is');
 }
 $scripts = in_order(scripts_of($files));
 $taken = $is_one ? $scripts : array_slice($scripts, 0, MOST_WORKERS);
@@ -49,20 +42,11 @@ tell(count($taken) . ' of ' . count($scripts) . ' scripts'
     . (count($taken) < count($scripts) ? ': an input has at most ' . MOST_WORKERS . ' workers' : ''));
 tell_left($taken);
 
-/** @return array{bool, ?string, list<string>} whether there is one worker, the file of the output, the other files */
+/** @return array{bool, list<string>} whether there is one worker, and the files */
 function asked(array $words): array
 {
-    $usage = 'usage: php join.php [--one] [--output FILE] FOLDER > INPUT';
-    [$is_one, $output, $files] = [false, null, []];
-    while ($words !== []) {
-        $word = array_shift($words);
-        match ($word) {
-            '--one' => $is_one = true,
-            '--output' => $output = array_shift($words) ?? give_up($usage),
-            default => $files[] = $word,
-        };
-    }
-    return $files === [] ? give_up($usage) : [$is_one, $output, $files];
+    $files = array_values(array_diff($words, ['--one']));
+    return $files === [] ? give_up('usage: php join.php [--one] FOLDER > INPUT') : [$files !== $words, $files];
 }
 
 /** What the recorder wrote: the files of folders, and others but for those that stand beside scripts. */

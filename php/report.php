@@ -1,10 +1,11 @@
 <?php // SPDX-License-Identifier: MIT
 
-// php report.php [--program PATH] [--html FILE] [--try "OPTIONS"].. INPUT
-// Plays an input of apcu_run once for each setting, and prints what came of it, as a table and as an HTML page, which also
-// has a picture of each cache's words at the end. Where INPUT is a recorder's folder, join.php --one makes the input; then
-// the first setting is the site's own one, what its APCu itself came to stands behind it, and the last line tells what was
-// left out.
+// php report.php [--program PATH] [--replay PATH] [--html FILE] [--try "OPTIONS"].. INPUT
+// Plays calls once for each setting, and prints what came of it, as a table and as an HTML page, which also has a picture
+// of each cache's words at the end. INPUT is an input of apcu_run, which plays it; or a recorder's folder, and then the
+// first setting is the site's own one, and the last line tells what was left out. A record of the extension is played by
+// apcu_replay, which takes caches of up to 2 GB. Of the scripts of record.php, join.php --one makes an input; what the
+// site's APCu itself came to follows the first setting.
 
 declare(strict_types=1);
 
@@ -22,21 +23,24 @@ const SETTINGS = [
     '--shm-size 32M --ttl 60', '--shm-size 32M --ttl 3600',
 ];
 
-const USAGE = 'usage: php report.php [--program PATH] [--html FILE] [--try "OPTIONS"].. INPUT';
+const USAGE = 'usage: php report.php [--program PATH] [--replay PATH] [--html FILE] [--try "OPTIONS"].. INPUT';
 
-[$program, $page, $settings, $input] = asked(array_slice($argv, 1));
-$site = is_dir($input) ? site_of($input) : null;
-$played = with_questions(is_dir($input) ? joined($input) : $input);
+[$program, $replayer, $page, $settings, $input] = asked(array_slice($argv, 1));
+$record = is_recorded($input) ? record_of($input) : null;
+$site = $record !== null ? site_of_record($record) : (is_dir($input) ? site_of($input) : null);
+$played = $record !== null ? $record->path : with_questions(is_dir($input) ? joined($input) : $input);
 [$rows, $pictures] = [[], []];
 put(STDOUT, line('setting', array_values(COLUMNS)));
 foreach (all_settings($settings, $site) as $setting) {
-    [$output, $message] = $site?->size > MOST_SIZE && $setting === $site->setting
-        ? [null, 'no more than ' . MOST_SIZE . ' bytes can be played']
-        : play($program, $setting, $played);
+    [$output, $message] = match (true) {
+        $record !== null => run_for($setting, [$replayer, '--play', '--map'], [$played]),
+        $site?->size > MOST_SIZE && $setting === $site->setting => [null, 'no more than ' . MOST_SIZE . ' bytes can be played'],
+        default => run_for($setting, [$program, '--map', '1'], [], $played),
+    };
     if ($output === null) {
         $rows[$setting] = $message;
     } else {
-        [$rows[$setting], $cells] = told($played, $output);
+        [$rows[$setting], $cells] = $record !== null ? replayed($output) : told($played, $output);
         $pictures[$setting] = $page === null ? '' : map_picture($cells);
     }
     tell_row($setting, $rows[$setting]);
@@ -67,14 +71,15 @@ function tell_row(string $setting, array|string $row): void
     put(STDOUT, line($setting, is_array($row) ? shown_all($row) : $row));
 }
 
-/** The program, the page, the settings and the input. */
+/** The programs, the page, the settings and the input. */
 function asked(array $words): array
 {
-    [$program, $page, $settings, $inputs] = [dirname(__DIR__) . '/apcu_run', null, [], []];
+    [$program, $replayer, $page, $settings, $inputs] = [dirname(__DIR__) . '/apcu_run', null, null, [], []];
     while ($words !== []) {
         $word = array_shift($words);
         match ($word) {
             '--program' => $program = array_shift($words) ?? give_up(USAGE),
+            '--replay' => $replayer = array_shift($words) ?? give_up(USAGE),
             '--html' => $page = array_shift($words) ?? give_up(USAGE),
             '--try' => $settings[] = array_shift($words) ?? give_up(USAGE),
             default => $inputs[] = $word,
@@ -83,14 +88,16 @@ function asked(array $words): array
     if (count($inputs) !== 1 || ($inputs[0][0] ?? '-') === '-') {
         give_up(USAGE);
     }
-    if (!is_file($program) || !is_executable($program)) {
+    if (is_recorded($inputs[0])) {
+        $replayer = replayer($replayer);
+    } elseif (!is_file($program) || !is_executable($program)) {
         give_up("$program is no program: say where it is with --program");
     }
     if ($page !== null) {
         // Told before minutes of play, and what stands there is kept until there is something new.
         opened($page, 'cb');
     }
-    return [$program, $page, $settings, $inputs[0]];
+    return [$program, $replayer, $page, $settings, $inputs[0]];
 }
 
 /** A line of the table; or the message where there are no cells. */

@@ -1,32 +1,25 @@
 <?php // SPDX-License-Identifier: MIT
 
-// The files that the extension writes with apc.record_dir, one a process. docs/RECORD.md has their form.
+// The file that the extension writes with apc.record_dir, one for each start of a server. capi/record_file.h has its form.
 
 declare(strict_types=1);
 
 namespace ApcuRecord;
 
-/** The largest cache that the program plays. */
+/** The largest cache that apcu_run plays. */
 const MOST_SIZE = 134_217_728;
 
-/** A file of a process, of which the head was read. */
+/** More than the head of a record has. */
+const HEAD_BYTES = 256;
+
+/** A record of which the head was read. */
 final class Recorded
 {
-    /** Something of it can't be read, or was not written whole. */
-    public bool $is_cut = false;
-
-    /**
-     * @param int $at where its head ends
-     * @param array{int, int} $first part and number of its first event; below 0 where there is none
-     */
     public function __construct(
         public readonly string $path,
         public readonly string $server,
-        public readonly int $process,
         public readonly Shape $shape,
         public readonly bool $has_values,
-        public readonly int $at,
-        public readonly array $first,
     ) {
     }
 }
@@ -41,7 +34,7 @@ final class Shape
     ) {
     }
 
-    /** @return list<string> the same for the program */
+    /** @return list<string> the same for a program */
     public function options(): array
     {
         return ['--shm-size', (string) $this->size, '--slots', (string) $this->slots, '--ttl', (string) $this->ttl];
@@ -54,60 +47,59 @@ function is_recorded(string $path): bool
     return is_dir($path) ? glob("$path/*.record") !== [] : str_ends_with($path, '.record');
 }
 
-/**
- * The files of one start of one server: of the one that is named, or else of the one that began last.
- *
- * @param list<string> $paths files and folders
- * @return list<Recorded>
- */
-function recorded_files(array $paths, ?string $server = null): array
+/** The record of the server that is named, or else the one that was written last; of several a line tells the others. */
+function record_of(string $path, ?string $server = null): Recorded
 {
-    $servers = $starts = [];
-    foreach ($paths as $path) {
-        foreach (is_dir($path) ? glob("$path/*.record") : [$path] as $name) {
-            [$file, $start] = begun($name);
-            if ($file !== null) {
-                $servers[$file->server][] = $file;
-                // A file may begin with a deletion, which is at the second 0.
-                $starts[$file->server] = max($starts[$file->server] ?? 0, $start);
-            }
+    $records = $times = [];
+    foreach (is_dir($path) ? glob("$path/*.record") : [$path] as $name) {
+        [$record, $has_events] = begun($name);
+        // A server that had no calls leaves a head.
+        if ($record !== null && ($has_events || !is_dir($path))) {
+            $records[$record->server] = $record;
+            $times[$record->server] = filemtime($name);
         }
     }
-    if ($servers === []) {
-        give_up(implode(', ', $paths) . ': there is no record of the extension');
+    if ($records === []) {
+        give_up("$path: there is no record of the extension");
     }
-    arsort($starts);
-    $server ??= (string) array_key_first($starts);
-    $files = $servers[$server] ?? give_up("no file is of the server $server");
-    if (count($servers) > 1) {
-        $left = array_sum(array_map(count(...), $servers)) - count($files);
-        tell('files of ' . count($servers) . " servers or starts: these are " . count($files) . " of $server, $left others are "
-            . 'left out (--server takes one of ' . implode(', ', array_diff(array_keys($servers), [$server])) . ')');
+    arsort($times);
+    $server ??= (string) array_key_first($times);
+    $record = $records[$server] ?? give_up("no record in $path is of the server $server");
+    if (count($records) > 1) {
+        tell('records of ' . count($records) . " servers or starts: this is that of $server (--server takes one of "
+            . implode(', ', array_diff(array_map(strval(...), array_keys($records)), [$server])) . ')');
     }
-    return $files;
+    return $record;
 }
 
-/** @return array{?Recorded, int} a file, and its first second; none, and a line, where it is no record */
+/** @return array{?Recorded, bool} a record, and whether it has events; none, and a line, if it is none */
 function begun(string $path): array
 {
-    $stream = opened($path);
-    if (fgets($stream) !== "apcu record 1\n") {
+    $text = (string) fread(opened($path), HEAD_BYTES);
+    if (!str_starts_with($text, "apcu record 2\n")) {
         tell("$path is left out: it does not begin as a record");
-        return [null, 0];
+        return [null, false];
     }
-    $head = [];
-    foreach (['server', 'process', 'shm-size', 'slots', 'ttl', 'values'] as $name) {
-        if (preg_match("/\\A$name ([0-9a-f]+)\\n\\z/", (string) fgets($stream), $found) !== 1) {
-            tell("$path is left out: it has no line $name");
-            return [null, 0];
+    if (preg_match('/\n((?:[a-z-]+ [0-9a-f]+\n)+)\n/', $text, $found, PREG_OFFSET_CAPTURE) !== 1
+        || preg_match('/\Aserver ([0-9a-f]{16})\nshm-size ([0-9]+)\nslots ([0-9]+)\nttl ([0-9]+)\nvalues ([01])\n\z/', $found[1][0], $head) !== 1
+    ) {
+        tell("$path is left out: its head is not that of a record");
+        return [null, false];
+    }
+    $shape = new Shape((int) $head[2], (int) $head[3], (int) $head[4]);
+    return [new Recorded($path, $head[1], $shape, $head[5] === '1'), strlen($text) > $found[0][1] + strlen($found[0][0])];
+}
+
+/** The program that reads records: the one that is named, or the one that was built or installed. */
+function replayer(?string $path): string
+{
+    $top = dirname(__DIR__, 2);
+    foreach ($path === null ? ["$top/apcu_replay", "$top/capi/apcu_replay", '/usr/bin/apcu_replay'] : [$path] as $program) {
+        if (is_file($program) && is_executable($program)) {
+            return $program;
         }
-        $head[$name] = $found[1];
     }
-    $shape = new Shape((int) $head['shm-size'], (int) $head['slots'], (int) $head['ttl']);
-    $at = (int) ftell($stream);
-    [$part, $time, $event] = [(string) fgets($stream), (string) fgets($stream), (string) fgets($stream)];
-    $is_event = str_starts_with($part, 'part ') && str_starts_with($time, 'time i:') && preg_match('/\A[0-9]/', $event) === 1;
-    $first = $is_event ? [(int) substr($part, 5), (int) $event] : [-1, -1];
-    $file = new Recorded($path, $head['server'], (int) $head['process'], $shape, $head['values'] === '1', $at, $first);
-    return [$file, $is_event ? second_of($time) : 0];
+    return give_up($path === null
+        ? 'there is no program apcu_replay: build it by make -C capi apcu_replay, or name it with --replay'
+        : "$path is no program: say where apcu_replay is with --replay");
 }

@@ -21,8 +21,6 @@ final class Stretch
     public int $last = 0;
     /** Why it ends before the events do. */
     public ?string $cut = null;
-    /** @var list<array{Event, int}> the events, and their seconds, where they are to be kept */
-    public array $kept = [];
     private array $scripts = [];
     private array $replies = [];
     private array $moments = [];
@@ -31,10 +29,6 @@ final class Stretch
     /** With what ends of workers and their lines take. */
     private int $bytes = 32 * MOST_WORKERS;
 
-    public function __construct(private readonly int $most_workers, private readonly bool $is_kept)
-    {
-    }
-
     /** Adds what came in this second since the start. False where there is no room; then it was not added. */
     public function add(Event $event, int $second): bool
     {
@@ -42,14 +36,14 @@ final class Stretch
             $this->cut = "no script can say the second of event {$event->number}";
             return false;
         }
-        $worker = $this->workers[$event->file] ??= $this->worker_of(count($this->workers));
+        $worker = $this->workers[$event->process] ??= $this->worker_of(count($this->workers));
         $call = $event->call;
         if ($event->moment !== ($this->moments[$worker] ?? 0)) {
             $call = "time i:{$event->moment};\n$call";
         }
         $bytes = strlen($call) + strlen($event->reply) + strlen((string) $worker) + 1;
         if ($this->bytes + $bytes > MOST_BYTES || $this->events + MOST_WORKERS >= MOST_EVENTS) {
-            $this->cut = 'there is no room for event ' . $event->number;
+            $this->cut = 'apcu_run takes ' . MOST_BYTES . ' bytes and ' . MOST_EVENTS . " events, and event {$event->number} is behind them";
             return false;
         }
         $this->bytes += $bytes;
@@ -64,9 +58,6 @@ final class Stretch
             $this->first = $second;
         }
         $this->last = $second;
-        if ($this->is_kept) {
-            $this->kept[] = [$event, $second];
-        }
         return true;
     }
 
@@ -79,12 +70,7 @@ final class Stretch
     /** A process has a worker of its own; where there are too many, some share one, for their order is known. */
     private function worker_of(int $process): int
     {
-        return $process % $this->most_workers;
-    }
-
-    public function processes(): int
-    {
-        return count($this->workers);
+        return $process % MOST_WORKERS;
     }
 
     public function scripts(): string
@@ -104,23 +90,16 @@ final class Stretch
 final class Extent
 {
     public int $events = 0;
-    public int $missing = 0;
-    public ?Gap $gap = null;
-    /** At how many places events are missing. */
-    public int $gaps = 0;
+    /** @var array<int, true> */
+    private array $processes = [];
     private ?int $first = null;
     private int $last = 0;
 
-    public function take(Event|Gap $event): void
+    public function take(Event $event): void
     {
-        if ($event instanceof Gap) {
-            $this->missing += $event->last - $event->first + 1;
-            $this->gap ??= $event;
-            $this->gaps++;
-            return;
-        }
         $this->events++;
-        // A deletion has the second 0, and a row that is over at once one that is past.
+        $this->processes[$event->process] = true;
+        // A deletion has the second 0, and a row that expires at once one that is past.
         if ($event->moment > 0) {
             $this->first ??= $event->moment;
             $this->last = max($this->last, $event->moment);
@@ -131,34 +110,25 @@ final class Extent
     {
         return $this->first === null ? 0 : $this->last - $this->first + 1;
     }
+
+    public function processes(): int
+    {
+        return count($this->processes);
+    }
 }
 
 /**
- * The stretches. Behind missing events, or where one is full, the next one begins where the cache is empty again; what
- * stands between is in none. One that has so many bytes already ends where the cache is emptied, so few are ever full.
+ * The stretches. Behind one that is full, the next one begins when the cache is empty again; what is between is in none.
+ * One that has so many bytes already ends when the cache is emptied, so few are ever full.
  *
- * @param iterable<Event|Gap> $events
+ * @param iterable<Event> $events
  * @return \Generator<int, Stretch>
  */
-function stretches(
-    iterable $events,
-    Extent $extent,
-    int $most_workers = MOST_WORKERS,
-    bool $is_kept = false,
-    int $bytes = MOST_BYTES,
-): \Generator
+function stretches(iterable $events, Extent $extent, int $bytes): \Generator
 {
     $stretch = null;
     foreach ($events as $event) {
         $extent->take($event);
-        if ($event instanceof Gap) {
-            if ($stretch !== null) {
-                $stretch->cut = $event->told();
-                yield $stretch;
-                $stretch = null;
-            }
-            continue;
-        }
         $begins = $event->number === 0 || $event->clears() && $stretch?->is_long($bytes) === true;
         if ($stretch !== null && !$begins && $stretch->add($event, $extent->seconds())) {
             continue;
@@ -168,11 +138,16 @@ function stretches(
             $stretch = null;
         }
         if ($event->number === 0 || $event->clears()) {
-            $stretch = new Stretch($most_workers, $is_kept);
+            $stretch = new Stretch();
             $stretch->add($event, $extent->seconds());
         }
     }
     if ($stretch !== null) {
         yield $stretch;
     }
+}
+
+function counted(int $count, string $one, ?string $many = null): string
+{
+    return number_format($count) . ' ' . ($count === 1 ? $one : $many ?? "{$one}s");
 }

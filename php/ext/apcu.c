@@ -58,10 +58,10 @@ static void start_record(void)
 		return;
 	}
 #ifdef ZTS
-	/* What waits to be written is the process's, and no thread has a part of its own in it. */
+	/* One thread of a process becomes the writer, and no thread is known by its process. */
 	php_log_err("apcu: where PHP has threads nothing is recorded; apc.record_dir is passed over");
 #else
-	tell(apcu_record_start(APCU_G(record_dir), APCU_G(record_values)));
+	tell(apcu_record_start(APCU_G(record_dir), APCU_G(record_values), (uint64_t) APCU_G(record_size)));
 #endif
 }
 
@@ -79,7 +79,6 @@ static PHP_MINIT_FUNCTION(apcu)
 	if (apcu_shm && APCU_G(preload_path)) {
 		apcu_preload(APCU_G(preload_path));
 	}
-	apcu_record_started();
 	apcu_iterator_start(register_class_APCUIterator(zend_ce_iterator), module_number);
 	return SUCCESS;
 }

@@ -37,6 +37,7 @@ ZEND_BEGIN_MODULE_GLOBALS(apcu)
 	char *record_dir;
 	bool record_values;
 	zend_long kept_size;
+	zend_long record_size;
 
 	time_t request_time;  /* 0: not asked for yet */
 	pid_t entry_process;  /* the process that the next two are of */

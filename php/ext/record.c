@@ -1,9 +1,12 @@
 /* SPDX-License-Identifier: MIT */
-/* A file is text: lines that say whose it is, and for each event two lines, the call in the words of
- * scripts with the event's number in front, and its reply. Keys and values are those of the cache: a
- * string has the byte behind it that says what it is. docs/RECORD.md has the whole form.
+/* Events are appended under the lock, in their order, to a ring in memory that all processes share. A
+ * process that finds it half full becomes the writer: when it has released the lock, it copies what
+ * waits to the file, which the server opened before it forked. docs/RECORD.md and record_file.h have
+ * the form of the file.
  *
- * Numbers are given under the lock, text is written outside it. No memory of a request is used. */
+ * A position in the ring counts bytes since the file's begin, so it is the place in the file too: who
+ * writes a part again writes the same bytes at the same place. A process that is killed has appended a
+ * whole event or none, and another one writes in the place of a writer that died. */
 #include "record.h"
 
 #include <errno.h>
@@ -12,76 +15,337 @@
 #include <stdio.h>
 #include <stdlib.h>
 #include <string.h>
+#include <sys/mman.h>
 #include <sys/random.h>
 #include <sys/stat.h>
 #include <unistd.h>
 
 #include "php_apcu.h"
-#include "zend_smart_str.h"
+#include "record_file.h"
 
-/* Bytes that are written at once, and lost if a process is killed. */
-#define BUFFER_BYTES 65536
+#define RING_BYTES (1 << 20)
 
-/* More than a head, or than what is written of an event besides bytes of its caller. */
-#define SHORT 256
+/* If the ring is full and its writer writes nothing for so long, recording ends: the process that waits
+ * has the lock. */
+#define PATIENCE_NANOSECONDS 1000000000
 
-/* Files of one process number in one folder; numbers come again. */
-#define MOST_FILES 1000
+enum { RECORDING, ENDED, FAILED };
 
-/* A call asks for two or three events under one lock. */
-#define MOST_NOTED 8
+/* What was appended. */
+typedef struct {
+	uint64_t end, events;
+} extent;
 
 typedef struct {
-	cache_request request;
-	cache_answer answer;
-	const zend_string *key;
-	const char *bytes;
-	size_t len;
-	uint64_t number, part;
-} event;
+	extent extents[2];              /* written under the lock; the one that counts is that of current */
+	_Atomic uint32_t current;
+	_Atomic uint64_t written;       /* the file has everything before */
+	_Atomic time_t written_at;
+	_Atomic uint32_t state;         /* RECORDING; ENDED: what was appended is still written; FAILED */
+	_Atomic bool has_children;      /* a process was forked */
+	bool is_taking;                 /* the owner of the lock takes the mark */
+	robust_mark writer;             /* the process that writes outside of the lock */
+	char bytes[RING_BYTES];
+} ring;
 
 bool apcu_is_recorded;
 
-static char *folder;
-static int folder_file = -1; /* the folder itself, which the server opened as it started */
-static bool is_with_values;
-static uint64_t server; /* which start of which server it is */
-
-static event noted[MOST_NOTED];
-static size_t noted_count;
-
-static bool is_starting; /* events are those of the server's start, and no file is open */
-static bool is_over;     /* this process could not write its events */
+static ring *all;
 static int file = -1;
-static char path[4096];
-static smart_str buffer;   /* malloc's, with room for what is written at once */
-static smart_str preloaded; /* the events of the server's start, for the first file */
-static uint64_t part, moment; /* of the last lines of these words in the buffer */
+static int folder_file = -1;
+static char name[64], path[4096];
+static pid_t maker, process; /* of the file; this one */
+static bool is_with_values;
+static uint64_t most; /* bytes of the file */
+
+/* Of this process: up to where it has to write, since it has the mark; 0: it has not. */
+static uint64_t due;
+static const char *message;
 static char fault[4400];
 
-/* In a forked child: what waits is for its parent to write, and it has had no fault itself. */
-static void forget(void)
+static zif_handler exec_handler;
+
+static const extent *appended(void)
 {
-	if (file >= 0) {
-		close(file);
-		file = -1;
+	return &all->extents[all->current];
+}
+
+/* Ends the recording of all processes; the first one of them has a message. */
+static void end(uint32_t state, const char *why)
+{
+	uint32_t before = RECORDING;
+
+	apcu_is_recorded = false;
+	if (atomic_compare_exchange_strong(&all->state, &before, state)) {
+		snprintf(fault, sizeof fault, "apcu: no more calls are recorded: %s: %s", path, why);
+		message = fault;
+	} else if (state == FAILED) {
+		all->state = FAILED;
 	}
-	if (buffer.s) {
-		ZSTR_LEN(buffer.s) = 0;
+}
+
+/* By the one process that may write: copies what waits before this position to the file. */
+static bool write_up_to(uint64_t position)
+{
+	while (all->written < position) {
+		size_t at = all->written % RING_BYTES;
+		size_t len = position - all->written < RING_BYTES - at ? position - all->written : RING_BYTES - at;
+		ssize_t n = pwrite(file, all->bytes + at, len, (off_t) all->written);
+
+		if (n < 0 && errno != EINTR) {
+			end(FAILED, strerror(errno));
+			return false;
+		}
+		all->written += n > 0 ? (uint64_t) n : 0;
 	}
-	noted_count = 0;
-	is_over = false;
+	all->written_at = time(NULL);
+	return true;
+}
+
+/* Under the lock: whether a process that is alive writes. */
+static bool has_writer(void)
+{
+	return robust_mark_is_owned(&all->writer, &apcu_shm->lock);
+}
+
+/* Under the lock: makes this process the writer of what was appended. */
+static void become_writer(void)
+{
+	/* This file has a thread's number and list of its own. */
+	robust_has_words();
+	all->is_taking = true;
+	atomic_signal_fence(memory_order_seq_cst);
+	robust_mark_take(&all->writer, &apcu_shm->lock);
+	atomic_signal_fence(memory_order_seq_cst);
+	all->is_taking = false;
+	due = appended()->end;
+}
+
+/* Under the lock, with a full ring: waits for the writer, or writes itself, up to this position. */
+static bool make_room(uint64_t position)
+{
+	uint64_t written = all->written, since = robust_nanoseconds();
+
+	while (has_writer()) {
+		usleep(50);
+		if (all->written != written) {
+			return true;
+		}
+		if (robust_nanoseconds() - since > PATIENCE_NANOSECONDS) {
+			end(FAILED, "no byte was written for a second");
+			return false;
+		}
+	}
+	return all->state != FAILED && write_up_to(position);
+}
+
+/* How many of these bytes have room in one piece behind a position, of which there is at least one. 0:
+ * recording has failed. */
+static size_t room_for(uint64_t position, size_t len)
+{
+	size_t in_piece = RING_BYTES - position % RING_BYTES, room;
+
+	if (UNEXPECTED(position - all->written == RING_BYTES) && !make_room(position)) {
+		return 0;
+	}
+	room = RING_BYTES - (position - all->written);
+	room = room < in_piece ? room : in_piece;
+	return room < len ? room : len;
+}
+
+static bool put(uint64_t *position, const void *bytes, size_t len)
+{
+	for (const char *from = bytes; len > 0;) {
+		size_t n = room_for(*position, len);
+
+		if (UNEXPECTED(n == 0)) {
+			return false;
+		}
+		memcpy(all->bytes + *position % RING_BYTES, from, n);
+		*position += n;
+		from += n;
+		len -= n;
+	}
+	return true;
+}
+
+/* A string of the cache. It is copied from whole words on. */
+static bool put_found(uint64_t *position, uint32_t place, size_t len)
+{
+	while (len > 0) {
+		size_t n = room_for(*position, len);
+
+		if (UNEXPECTED(n == 0)) {
+			return false;
+		}
+		if (n == len || n >= 8) {
+			n = n == len ? n : n / 8 * 8;
+			cache_copy(apcu_shm->cache, place, (uint8_t *) all->bytes + *position % RING_BYTES, n);
+			*position += n;
+		} else {
+			uint8_t word[8];
+
+			n = len < 8 ? len : 8;
+			cache_copy(apcu_shm->cache, place, word, n);
+			if (!put(position, word, n)) {
+				return false;
+			}
+		}
+		place += (uint32_t) (n / 8);
+		len -= n;
+	}
+	return true;
+}
+
+/* Where the next event begins. A process that died in one that the ring does not hold left a part of it
+ * in the file. */
+static uint64_t next_position(void)
+{
+	uint64_t position = appended()->end;
+
+	if (UNEXPECTED(all->written > position)) {
+		if (ftruncate(file, (off_t) position) != 0) {
+			end(FAILED, strerror(errno));
+		}
+		all->written = position;
+	}
+	return position;
+}
+
+/* The event counts from here on. True if there is something to do outside of the lock. */
+static bool append(uint64_t position)
+{
+	extent *next = &all->extents[1 - all->current];
+
+	*next = (extent) {position, appended()->events + 1};
+	atomic_signal_fence(memory_order_seq_cst);
+	all->current = 1 - all->current;
+	atomic_signal_fence(memory_order_seq_cst);
+	if (UNEXPECTED(position - all->written >= RING_BYTES / 2) && !has_writer()) {
+		become_writer();
+	}
+	return due != 0;
+}
+
+static bool is_full(size_t more)
+{
+	return most != 0 && more > most - (appended()->end < most ? appended()->end : most);
+}
+
+static record_event event_of(const cache_request *request, size_t key_len, size_t len, const cache_answer *answer)
+{
+	bool is_store = request->kind == CACHE_STORE || request->kind == CACHE_ADD;
+	record_event e = {
+		.t = request->t,
+		.number = is_store && request->value == CACHE_STR ? len : request->number,
+		.set = request->kind == CACHE_SWAP ? request->set : request->ttl,
+		.answer = answer->kind == CACHE_STR ? answer->len
+			: answer->kind == CACHE_INT || answer->kind == CACHE_BOOL ? (uint64_t) answer->number : 0,
+		.event = (uint32_t) appended()->events,
+		.process = (uint32_t) process,
+		.key_len = request->kind == CACHE_CLEAR ? 0 : (uint32_t) key_len,
+		.kind = (uint8_t) request->kind,
+		.value = is_store ? (uint8_t) request->value : 0,
+		.reply = (uint8_t) answer->kind
+	};
+
+	return e;
+}
+
+bool apcu_record_note(const cache_request *request, const zend_string *key, const char *bytes, size_t len,
+	const cache_answer *answer)
+{
+	if (answer->kind == CACHE_BAD || answer->kind == CACHE_TOO_LONG) {
+		return false;
+	}
+	if (UNEXPECTED(all->state != RECORDING)) {
+		apcu_is_recorded = false;
+		return false;
+	}
+
+	record_event e = event_of(request, ZSTR_LEN(key), len, answer);
+	size_t stored = is_with_values && record_stores_text(&e) ? len : 0;
+	size_t found = is_with_values && record_answers_text(&e) ? answer->len : 0;
+	if (UNEXPECTED(is_full(sizeof e + e.key_len + stored + found))) {
+		end(ENDED, "apc.record_size is reached");
+		if (!has_writer()) {
+			become_writer();
+		}
+		return true;
+	}
+
+	uint64_t position = next_position();
+	if (put(&position, &e, sizeof e) && put(&position, ZSTR_VAL(key), e.key_len) && put(&position, bytes, stored)
+			&& put_found(&position, answer->place, found)) {
+		return append(position);
+	}
+	return message != NULL;
+}
+
+bool apcu_record_recover(bool is_remade)
+{
+	if (!all) {
+		return false;
+	}
+	if (all->is_taking) {
+		robust_mark_reset(&all->writer, &apcu_shm->lock);
+		all->is_taking = false;
+	}
+	if (!is_remade || all->state != RECORDING) {
+		return false;
+	}
+
+	record_event e = {
+		.t = (uint64_t) time(NULL),
+		.event = (uint32_t) appended()->events,
+		.process = (uint32_t) process,
+		.kind = RECORD_REMADE
+	};
+	uint64_t position = next_position();
+	return put(&position, &e, sizeof e) ? append(position) : message != NULL;
+}
+
+const char *apcu_record_write(void)
+{
+	const char *told;
+
+	if (due != 0) {
+		if (all->state != FAILED) {
+			write_up_to(due);
+		}
+		due = 0;
+		robust_mark_release(&all->writer, &apcu_shm->lock);
+	}
+	told = message;
+	message = NULL;
+	return told;
+}
+
+/* Writes what waits, unless another process does so. */
+static const char *flush(void)
+{
+	if (all->state == FAILED || !apcu_lock()) {
+		return NULL;
+	}
+	if (all->written < appended()->end && !has_writer()) {
+		become_writer();
+	}
+	apcu_unlock();
+	return apcu_record_write();
+}
+
+const char *apcu_record_leave(void)
+{
+	return all && all->written < appended()->end && all->written_at != time(NULL) ? flush() : NULL;
 }
 
 /* What waits is written before a process runs another program. */
-static zif_handler exec_handler;
-
 static ZEND_FUNCTION(exec_after_write)
 {
-	const char *message = apcu_record_leave();
+	const char *told = all ? flush() : NULL;
 
-	if (UNEXPECTED(message)) {
-		php_log_err(message);
+	if (UNEXPECTED(told)) {
+		php_log_err(told);
 	}
 	exec_handler(INTERNAL_FUNCTION_PARAM_PASSTHRU);
 }
@@ -96,248 +360,15 @@ static void hook_exec(void)
 	}
 }
 
-/* A folder that root makes is for the users of all pools: each makes files there, and none sees, reads,
- * removes or replaces those of others. */
-static bool make_folder(void)
+static void note_child(void)
 {
-	mode_t before = umask(0);
-	bool is_made = mkdir(folder, geteuid() == 0 ? 01733 : 0700) == 0 || errno == EEXIST;
-	int error = errno;
-
-	umask(before);
-	errno = error;
-	return is_made;
-}
-
-const char *apcu_record_start(const char *name, bool has_values)
-{
-	static bool is_prepared;
-
-	/* Clocks do for a number that only has to differ, if the system has no better one. */
-	if (getrandom(&server, sizeof server, GRND_NONBLOCK) != sizeof server) {
-		server = (uint64_t) time(NULL) << 24 ^ (uint64_t) getpid();
-	}
-	is_with_values = has_values;
-	folder = strdup(name);
-	if (!folder || (!is_prepared && pthread_atfork(NULL, NULL, forget) != 0)) {
-		return "apcu: no calls are recorded: no memory";
-	}
-	is_prepared = true;
-	if (make_folder()) {
-		folder_file = open(folder, O_PATH | O_DIRECTORY | O_NOFOLLOW | O_CLOEXEC);
-	}
-	if (folder_file < 0) {
-		snprintf(fault, sizeof fault, "apcu: no calls are recorded: %s: %s", folder, strerror(errno));
-		return fault;
-	}
-	hook_exec();
-	smart_str_alloc(&buffer, BUFFER_BYTES + SHORT, true);
-	part = moment = UINT64_MAX;
-	apcu_is_recorded = is_starting = true;
-	return NULL;
-}
-
-void apcu_record_started(void)
-{
-	if (apcu_is_recorded && ZSTR_LEN(buffer.s) > 0) {
-		preloaded = buffer;
-		buffer = (smart_str) {0};
-		smart_str_alloc(&buffer, BUFFER_BYTES + SHORT, true);
-	}
-	is_starting = false;
-}
-
-/* Ends the recording of this process. Events go on to be counted, so that the judge sees that some are
- * missing. */
-static const char *end(const char *where, const char *why)
-{
-	is_over = true;
-	ZSTR_LEN(buffer.s) = 0;
-	snprintf(fault, sizeof fault, "apcu: process %ld records no more calls: %s: %s", (long) getpid(), where, why);
-	return fault;
-}
-
-static bool write_all(const char *bytes, size_t len)
-{
-	while (len > 0) {
-		ssize_t n = write(file, bytes, len);
-
-		if (n >= 0) {
-			bytes += n;
-			len -= (size_t) n;
-		} else if (errno != EINTR) {
-			return false;
-		}
-	}
-	return true;
-}
-
-static bool flush(void)
-{
-	bool is_written = write_all(ZSTR_VAL(buffer.s), ZSTR_LEN(buffer.s));
-
-	ZSTR_LEN(buffer.s) = 0;
-	return is_written;
-}
-
-/* Bytes of a caller. Only while the server starts does the buffer grow. */
-static bool put(const char *bytes, size_t len)
-{
-	if (UNEXPECTED(ZSTR_LEN(buffer.s) + len > BUFFER_BYTES) && !is_starting) {
-		if (!flush()) {
-			return false;
-		}
-		if (len > BUFFER_BYTES) {
-			return write_all(bytes, len);
-		}
-	}
-	smart_str_appendl_ex(&buffer, bytes, len, true);
-	return true;
-}
-
-/* Whether there is room for SHORT bytes, that is for all that the functions below write, up to a put. */
-static bool has_room(void)
-{
-	return is_starting || ZSTR_LEN(buffer.s) <= BUFFER_BYTES || flush();
-}
-
-static void add(const char *text)
-{
-	smart_str_appendl_ex(&buffer, text, strlen(text), true);
-}
-
-static void add_number(uint64_t number)
-{
-	smart_str_append_unsigned_ex(&buffer, (zend_ulong) number, true);
-}
-
-static void add_integer(int64_t number)
-{
-	add("i:");
-	smart_str_append_long_ex(&buffer, (zend_long) number, true);
-	add(";");
-}
-
-/* s:LEN:"BYTES"; */
-static bool put_string(const char *bytes, size_t len)
-{
-	add("s:");
-	add_number(len);
-	add(":\"");
-	return put(bytes, len) && put("\";", 2);
-}
-
-/* A value of the cache. Of a string whose bytes are left out its length is written. */
-static bool put_value(uint32_t kind, uint64_t number, const char *bytes, size_t len)
-{
-	switch (kind) {
-		case CACHE_NULL:
-			add("N;");
-			return true;
-		case CACHE_BOOL:
-			add(number != 0 ? "b:1;" : "b:0;");
-			return true;
-		case CACHE_INT:
-			add_integer((int64_t) number);
-			return true;
-		default:
-			if (is_with_values) {
-				return put_string(bytes, len);
-			}
-			add("x:");
-			add_number(len);
-			add(";");
-			return true;
+	process = getpid();
+	if (all) {
+		all->has_children = true;
 	}
 }
 
-static const char *const words[] = {
-	[CACHE_STORE] = " apcu_store ",
-	[CACHE_ADD] = " apcu_add ",
-	[CACHE_LOOK] = " apcu_fetch ",
-	[CACHE_EXISTS] = " apcu_exists ",
-	[CACHE_DELETE] = " apcu_delete ",
-	[CACHE_COUNT] = " apcu_inc ",
-	[CACHE_SWAP] = " apcu_cas ",
-	[CACHE_CLEAR] = " apcu_clear_cache"
-};
-
-/* The lines that say in which cache and at which second the next event is, and its number and word. */
-static void add_front(const event *e)
-{
-	if (e->part != part) {
-		part = e->part;
-		add("part ");
-		add_number(part);
-		add("\n");
-	}
-	if (e->request.t != moment) {
-		moment = e->request.t;
-		add("time ");
-		add_integer((int64_t) moment);
-		add("\n");
-	}
-	add_number(e->number);
-	add(words[e->request.kind]);
-}
-
-static bool put_call(const event *e)
-{
-	const cache_request *request = &e->request;
-	bool is_store = request->kind == CACHE_STORE || request->kind == CACHE_ADD;
-
-	if (!has_room()) {
-		return false;
-	}
-	add_front(e);
-	if (request->kind != CACHE_CLEAR && !put_string(ZSTR_VAL(e->key), ZSTR_LEN(e->key))) {
-		return false;
-	}
-	if (is_store) {
-		add(" ");
-		if (!put_value(request->value, request->number, e->bytes, e->len)) {
-			return false;
-		}
-	}
-	if (!has_room()) {
-		return false;
-	}
-	if (request->kind == CACHE_COUNT || request->kind == CACHE_SWAP) {
-		add(" ");
-		add_integer((int64_t) request->number);
-	}
-	if (request->kind == CACHE_SWAP) {
-		add(" ");
-		add_integer((int64_t) request->set);
-	}
-	if ((is_store || request->kind == CACHE_COUNT) && request->ttl != 0) {
-		add(" ");
-		add_integer(request->ttl);
-	}
-	add("\n");
-	return true;
-}
-
-static bool put_reply(const event *e)
-{
-	const cache_answer *answer = &e->answer;
-
-	if (!has_room()) {
-		return false;
-	}
-	switch (e->request.kind) {
-		case CACHE_LOOK:
-		case CACHE_COUNT:
-			if (answer->kind > CACHE_STR) {
-				return put("b:0;b:0;\n", 9);
-			}
-			return put_value(answer->kind, (uint64_t) answer->number, e->bytes, answer->len) && put("b:1;\n", 5);
-		default:
-			return put(answer->kind == CACHE_YES ? "b:1;\n" : "b:0;\n", 5);
-	}
-}
-
-/* Null, or why no file is made in the folder: a user besides root and this process's own could put another
+/* Null, or why no file is made in the folder: a user besides root and the server's own could put another
  * file in the place of one that is written. */
 static const char *fault_of_folder(void)
 {
@@ -355,115 +386,116 @@ static const char *fault_of_folder(void)
 	return NULL;
 }
 
-/* Opens a file of this process alone, for the owner alone: null, or why it can't. */
-static const char *open_file(void)
+/* Makes the folder, unless it is there, and a file in it for its owner alone: null, or why it can't. */
+static const char *make_file(const char *folder, uint64_t server)
 {
-	const int how = O_WRONLY | O_CREAT | O_EXCL | O_APPEND | O_CLOEXEC | O_NOFOLLOW;
-	const char *why = fault_of_folder();
-	long process = (long) getpid();
-	char head[SHORT];
+	mode_t before = umask(0);
+	bool is_made = mkdir(folder, 0700) == 0 || errno == EEXIST;
+	const char *why;
 
+	umask(before);
 	snprintf(path, sizeof path, "%s", folder);
+	folder_file = is_made ? open(folder, O_PATH | O_DIRECTORY | O_NOFOLLOW | O_CLOEXEC) : -1;
+	if (folder_file < 0) {
+		return strerror(errno);
+	}
+	why = fault_of_folder();
 	if (why) {
 		return why;
 	}
-	for (int n = 0; file < 0 && n < MOST_FILES; n++) {
-		char name[64];
+	snprintf(name, sizeof name, "%016llx.record", (unsigned long long) server);
+	snprintf(path, sizeof path, "%s/%s", folder, name);
+	file = openat(folder_file, name, O_WRONLY | O_CREAT | O_EXCL | O_CLOEXEC | O_NOFOLLOW, 0600);
+	return file < 0 ? strerror(errno) : NULL;
+}
 
-		snprintf(name, sizeof name, "%016llx-%ld-%d.record", (unsigned long long) server, process, n);
-		snprintf(path, sizeof path, "%s/%s", folder, name);
-		file = openat(folder_file, name, how, 0600);
-		if (file < 0 && errno != EEXIST) {
-			return strerror(errno);
-		}
-	}
-	if (file < 0) {
-		return strerror(EEXIST);
-	}
-
-	snprintf(head, sizeof head,
-		"apcu record 1\nserver %016llx\nprocess %ld\nshm-size %llu\nslots %u\nttl %u\nvalues %d\n",
-		(unsigned long long) server, process, (unsigned long long) apcu_shm->shape.words * 8, apcu_shm->shape.slots,
+static bool write_head(uint64_t server)
+{
+	char head[RECORD_HEAD];
+	int len = snprintf(head, sizeof head, RECORD_NAME "server %016llx\nshm-size %llu\nslots %u\nttl %u\nvalues %d\n\n",
+		(unsigned long long) server, (unsigned long long) apcu_shm->shape.words * 8, apcu_shm->shape.slots,
 		apcu_shm->shape.ttl, is_with_values);
-	add(head);
-	if (preloaded.s && !__atomic_exchange_n(&apcu_shm->is_preload_recorded, true, __ATOMIC_RELAXED)
-			&& !put(ZSTR_VAL(preloaded.s), ZSTR_LEN(preloaded.s))) {
-		return strerror(errno);
-	}
-	part = UINT64_MAX;
-	moment = UINT64_MAX;
-	return NULL;
+	uint64_t position = 0;
+
+	put(&position, head, (size_t) len);
+	all->extents[0].end = position;
+	return write_up_to(position);
 }
 
-void apcu_record_note(const cache_request *request, const zend_string *key, const char *bytes, size_t len,
-	const cache_answer *answer)
+static void stop(void)
 {
-	if (answer->kind == CACHE_BAD || answer->kind == CACHE_TOO_LONG) {
-		return;
+	if (file >= 0) {
+		close(file);
+		file = -1;
 	}
-
-	uint64_t number = apcu_shm->events++;
-	if (noted_count < MOST_NOTED && !is_over) {
-		/* The bytes of an answer come by apcu_record_copied. */
-		bytes = request->kind == CACHE_LOOK ? NULL : bytes;
-		noted[noted_count++] = (event) {*request, *answer, key, bytes, len, number, apcu_shm->remade};
-	}
-}
-
-void apcu_record_copied(const char *bytes)
-{
-	if (noted_count > 0) {
-		noted[noted_count - 1].bytes = bytes;
-	}
-}
-
-const char *apcu_record_write(void)
-{
-	size_t count = noted_count;
-
-	noted_count = 0;
-	if (count == 0) {
-		return NULL;
-	}
-	if (file < 0 && !is_starting) {
-		const char *why = open_file();
-
-		if (why) {
-			return end(path, why);
-		}
-	}
-	for (const event *e = noted; e < noted + count; e++) {
-		if (e->request.kind == CACHE_LOOK && e->answer.kind == CACHE_STR && !e->bytes) {
-			return end(path, "no memory for a value");
-		}
-		if (!put_call(e) || !put_reply(e)) {
-			return end(path, strerror(errno));
-		}
-	}
-	return NULL;
-}
-
-const char *apcu_record_leave(void)
-{
-	if (file < 0 || ZSTR_LEN(buffer.s) == 0 || flush()) {
-		return NULL;
-	}
-	return end(path, strerror(errno));
-}
-
-const char *apcu_record_stop(void)
-{
-	const char *message = apcu_record_leave();
-
-	forget();
 	if (folder_file >= 0) {
 		close(folder_file);
 		folder_file = -1;
 	}
-	smart_str_free_ex(&buffer, true);
-	smart_str_free_ex(&preloaded, true);
-	free(folder);
-	folder = NULL;
+	if (all) {
+		munmap(all, sizeof *all);
+		all = NULL;
+	}
 	apcu_is_recorded = false;
-	return message;
+}
+
+const char *apcu_record_start(const char *folder, bool has_values, uint64_t limit)
+{
+	static bool is_prepared;
+	uint64_t server;
+	const char *why;
+
+	/* Clocks do for a number that only has to differ, if the system has no better one. */
+	if (getrandom(&server, sizeof server, GRND_NONBLOCK) != sizeof server) {
+		server = (uint64_t) time(NULL) << 24 ^ (uint64_t) getpid();
+	}
+	is_with_values = has_values;
+	most = limit;
+	maker = process = getpid();
+	why = make_file(folder, server);
+	if (!why) {
+		void *at = mmap(NULL, sizeof *all, PROT_READ | PROT_WRITE, MAP_SHARED | MAP_ANONYMOUS, -1, 0);
+
+		is_prepared = is_prepared || pthread_atfork(NULL, NULL, note_child) == 0;
+		all = at == MAP_FAILED ? NULL : at;
+		if (!all || !is_prepared || !robust_mark_make(&all->writer, &apcu_shm->lock)) {
+			why = "no memory";
+		} else if (!write_head(server)) {
+			why = strerror(errno);
+		}
+	}
+	if (why) {
+		snprintf(fault, sizeof fault, "apcu: no calls are recorded: %s: %s", path, why);
+		message = NULL;
+		if (file >= 0) {
+			unlinkat(folder_file, name, 0);
+		}
+		stop();
+		return fault;
+	}
+	hook_exec();
+	apcu_is_recorded = true;
+	return NULL;
+}
+
+const char *apcu_record_stop(void)
+{
+	const char *told = NULL;
+
+	if (!all) {
+		return NULL;
+	}
+	/* The server's own process waits for a worker that still writes. */
+	for (int n = 0; n < 1000 && !told && all->state != FAILED && all->written < appended()->end; n++) {
+		told = flush();
+		if (process != maker || all->written >= appended()->end) {
+			break;
+		}
+		usleep(1000);
+	}
+	if (process == maker && appended()->events == 0 && !all->has_children) {
+		unlinkat(folder_file, name, 0);
+	}
+	stop();
+	return told;
 }

@@ -1,37 +1,36 @@
 /* SPDX-License-Identifier: MIT */
-/* The record of what the cache was asked and what it answered: with apc.record_dir each process writes
- * a file, of which php/judge.php tells whether each answer was the right one. */
+/* The record of what the cache was asked and what it answered: with apc.record_dir the server writes
+ * one file, of which php/judge.php tells whether each answer was the right one. */
 #ifndef APCU_RECORD_H
 #define APCU_RECORD_H
 
 #include "php.h"
 #include "cache_c.h"
 
-/* Whether events are recorded; all processes of one start agree. It is false without apc.record_dir. */
+/* Whether this process records events. It is false without apc.record_dir, and when recording has
+ * ended. */
 extern bool apcu_is_recorded;
 
-/* Before there is a second process: makes the folder, unless it is there, and opens it. A message if that
- * failed; then nothing is recorded. A process makes its file at its first event. */
-const char *apcu_record_start(const char *folder, bool has_values);
+/* Before there is a second process and after the cache was made: makes the folder, unless it is there,
+ * and the file. `limit` is how many bytes the file may have at most, 0 any number. A message if that
+ * failed; then nothing is recorded. */
+const char *apcu_record_start(const char *folder, bool has_values, uint64_t limit);
 
-/* When the server has started: the first process that makes a file writes the events up to here. */
-void apcu_record_started(void);
-
-/* Writes what waits, at the end of a request and of the process; a message where that failed. */
-const char *apcu_record_leave(void);
-const char *apcu_record_stop(void);
-
-/* Under the lock: an event and its answer. Key and bytes stay where they are until the lock is
- * released and apcu_record_write was called. */
-void apcu_record_note(const cache_request *request, const zend_string *key, const char *bytes, size_t len,
+/* Under the lock, before another process learns of the answer: appends an event. True if
+ * apcu_record_write has something to do when the lock was released. */
+bool apcu_record_note(const cache_request *request, const zend_string *key, const char *bytes, size_t len,
 	const cache_answer *answer);
 
-/* Under the lock: the bytes of a string that the last event answered with; null if there was no
- * memory for them. */
-void apcu_record_copied(const char *bytes);
+/* Under the lock, if its last owner died; `is_remade`: an empty cache took the place of the last one.
+ * True as above. */
+bool apcu_record_recover(bool is_remade);
 
-/* When the lock was released: writes the events that were noted. If that fails, the recording of this
- * process ends, and what is returned is a message for the log. */
+/* When the lock was released: writes what is due. A message for the log if recording ended. */
 const char *apcu_record_write(void);
+
+/* At the end of a request: writes what waits for a second or longer. At the end of the process:
+ * writes what waits. A message as above. */
+const char *apcu_record_leave(void);
+const char *apcu_record_stop(void);
 
 #endif

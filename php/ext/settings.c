@@ -49,6 +49,7 @@ PHP_INI_BEGIN()
 	STD_PHP_INI_ENTRY("apc.record_dir", NULL, PHP_INI_SYSTEM, OnUpdateString, record_dir, zend_apcu_globals, apcu_globals)
 	STD_PHP_INI_BOOLEAN("apc.record_values", "1", PHP_INI_SYSTEM, OnUpdateBool, record_values, zend_apcu_globals, apcu_globals)
 	STD_PHP_INI_ENTRY("apc.kept_size", "0", PHP_INI_SYSTEM, OnUpdateLongGEZero, kept_size, zend_apcu_globals, apcu_globals)
+	STD_PHP_INI_ENTRY("apc.record_size", "1G", PHP_INI_SYSTEM, OnUpdateLongGEZero, record_size, zend_apcu_globals, apcu_globals)
 	STD_PHP_INI_ENTRY("apc.serializer", "php", PHP_INI_SYSTEM, OnUpdateStringUnempty, serializer_name, zend_apcu_globals, apcu_globals)
 PHP_INI_END()
 

@@ -21,7 +21,7 @@ static enum { FROM_MALLOC, FROM_MAPPING, FROM_NOWHERE } source;
 /* A message for the log about the cache that took the place of another one, or null. */
 static const char *remade_message;
 
-/* Something waits until the lock is released: events to be recorded, or that message. */
+/* Something waits until the lock is released: events to be written, or that message. */
 static bool has_news;
 
 /* What the library gets when it asks for memory. */
@@ -106,7 +106,7 @@ static void make(void)
 	apcu_shm->words = NULL;
 	apcu_shm->used = sizeof *apcu_shm;
 	memset(&apcu_shm->last, 0, sizeof apcu_shm->last);
-	apcu_shm->events = 0;
+	apcu_shm->expunges = 0;
 
 	source = FROM_MAPPING;
 	uint8_t *at = take(cache_size());
@@ -246,6 +246,7 @@ static void recover(void)
 			? "apcu: a process died while it changed the cache; an empty one has taken its place"
 			: "apcu: a process died while it changed the cache, and no empty one could be made: there is none until PHP restarts";
 		has_news = true;
+		apcu_record_recover(true);
 		set_busy(false);
 	} else {
 		seats_settle(&apcu_shm->seats);
@@ -253,6 +254,7 @@ static void recover(void)
 		if (apcu_shm->is_made) {
 			cache_get_view(apcu_shm->cache, &apcu_shm->view);
 		}
+		has_news = apcu_record_recover(false);
 	}
 }
 
@@ -328,6 +330,18 @@ static bool may_drop_rows(uint32_t kind)
 	return kind != CACHE_LOOK && kind != CACHE_HOLD && kind != CACHE_EXISTS;
 }
 
+/* An expunge begins the counts of hits, misses and inserts anew, and so the time that they are of. */
+static void note_expunges(void)
+{
+	uint64_t expunges = cache_get_counts(apcu_shm->cache).expunges;
+
+	if (UNEXPECTED(expunges != apcu_shm->expunges)) {
+		apcu_shm->expunges = expunges;
+		apcu_shm->start_time = time(NULL);
+		memset(&apcu_shm->last, 0, sizeof apcu_shm->last);
+	}
+}
+
 cache_answer apcu_ask(const cache_request *request, const zend_string *key, const char *bytes, size_t len)
 {
 	/* A process that is killed in a call that changes nothing leaves the cache whole. */
@@ -337,12 +351,14 @@ cache_answer apcu_ask(const cache_request *request, const zend_string *key, cons
 	}
 	cache_answer answer = cache_ask_hashed(apcu_shm->cache, request,
 		(const uint8_t *) ZSTR_VAL(key), ZSTR_LEN(key), (const uint8_t *) bytes, len);
-	if (UNEXPECTED(apcu_is_recorded)) {
-		apcu_record_note(request, key, bytes, len, &answer);
+	if (UNEXPECTED(apcu_is_recorded) && apcu_record_note(request, key, bytes, len, &answer)) {
 		has_news = true;
 	}
 	if (EXPECTED(request->kind != CACHE_EXISTS)) {
 		cache_get_view(apcu_shm->cache, &apcu_shm->view);
+	}
+	if (may_drop_rows(request->kind)) {
+		note_expunges();
 	}
 	set_busy(false);
 	return answer;

@@ -23,10 +23,9 @@ typedef struct {
 	volatile bool is_made;      /* there is a cache */
 	volatile bool is_busy;      /* a call that may change it is under way */
 	uint64_t remade;            /* how often a process died in such a call, and the cache was made anew */
-	uint64_t events;            /* how many events this cache had, while they are recorded */
-	bool is_preload_recorded;   /* a process has the events of the server's start in its file */
 	_Atomic uint64_t stamps;    /* how many stamps were given to values; it goes on in a cache that is made later */
-	time_t start_time;          /* when the cache was made or cleared */
+	time_t start_time;          /* when the cache was made or cleared, or the last expunge was */
+	uint64_t expunges;          /* how many there were by then */
 	struct {
 		zend_ulong hash;
 		size_t len;

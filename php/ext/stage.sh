@@ -21,7 +21,7 @@ mkdir -p "$1"
 mkdir -p "$1/tests" "$1/capi/engine"
 cp "$ext"/*.c "$ext"/*.h "$ext/engine.S" "$ext/apcu.stub.php" "$ext/config.m4" "$ext/Makefile.frag" "$1/"
 cp "$ext"/tests/*.phpt "$ext"/tests/*.inc "$1/tests/"
-cp "$top/capi/cache_c.h" "$top/capi/lanes.h" "$top/capi/robust_lock.h" "$top/capi/seats.h" "$1/capi/"
+cp "$top/capi/cache_c.h" "$top/capi/lanes.h" "$top/capi/robust_lock.h" "$top/capi/seats.h" "$top/capi/record_file.h" "$1/capi/"
 cp "$top"/capi/engine/*.s "$1/capi/engine/"
 cp "$top/LICENSE" "$top/CHANGELOG.md" "$1/"
 rm -f "$1/config.h" # of a build in the folder itself

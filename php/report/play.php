@@ -58,23 +58,53 @@ function with_questions(string $path): string
     return $copy;
 }
 
-/** What the program prints with these options and a map, as a stream; or none, and its message. */
-function play(string $program, string $setting, string $input): array
+/**
+ * What a program prints with the options of a setting, as a stream; or none, and its message.
+ *
+ * @param list<string> $first the program and its first words
+ * @param list<string> $last its last words
+ * @return array{?resource, string}
+ */
+function run_for(string $setting, array $first, array $last, string $input = '/dev/null'): array
 {
     $output = @tmpfile() ?: give_up(sys_get_temp_dir() . ': there is no place for an output');
     $words = preg_split('/ +/', $setting, -1, PREG_SPLIT_NO_EMPTY);
-    $ends = [opened($input), $output, ['pipe', 'w']];
-    $process = @proc_open([$program, ...$words, '--map', '1'], $ends, $pipes);
+    $process = @proc_open([...$first, ...$words, ...$last], [opened($input), $output, ['pipe', 'w']], $pipes);
     if ($process === false) {
-        give_up("$program cannot be started: " . reason());
+        give_up("$first[0] cannot be started: " . reason());
     }
     $message = trim((string) stream_get_contents($pipes[2]));
     $status = proc_close($process);
     if ($status !== 0) {
-        return [null, $message === '' ? "the program ended with status $status" : $message];
+        return [null, $message === '' ? "the program ended with status $status" : strtok($message, "\n")];
+    }
+    if ($message !== '') {
+        tell($message);
     }
     rewind($output);
     return [$output, ''];
+}
+
+/**
+ * What apcu_replay tells of a cache.
+ *
+ * @param resource $output
+ * @return array{array<string, int|float>, Cells} the row of a setting, and its map
+ */
+function replayed($output): array
+{
+    $counts = [];
+    $lines = lines_of($output);
+    for (; $lines->valid() && $lines->current() !== "map\n"; $lines->next()) {
+        [$name, $count] = explode(' ', $lines->current());
+        $counts[$name] = (int) $count;
+    }
+    $lines->next();
+    $row = ['rate' => $counts['hits'] / max(1, $counts['hits'] + $counts['misses'])];
+    foreach (array_slice(array_keys(COLUMNS), 1) as $name) {
+        $row[$name] = $counts[$name];
+    }
+    return [$row, map_of($lines)[0]];
 }
 
 /**

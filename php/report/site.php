@@ -26,13 +26,14 @@ final class Site
     }
 }
 
+function site_of_record(Recorded $record): Site
+{
+    $left = 'nothing was left out' . ($record->has_values ? '' : '; of strings the lengths are known');
+    return new Site(...options_of($record->shape, false), row: null, left: $left);
+}
+
 function site_of(string $folder): Site
 {
-    if (is_recorded($folder)) {
-        $first = recorded_files([$folder])[0];
-        $left = 'nothing was left out' . ($first->has_values ? '' : '; a string as long stands for each string');
-        return new Site(...options_of($first->shape, false), row: null, left: $left);
-    }
     $lines = [];
     foreach (glob("$folder/*.site") as $path) {
         $of = array_map(static fn (string $line): array => explode("\t", $line), file($path, FILE_IGNORE_NEW_LINES));

@@ -1,81 +1,97 @@
 <?php // SPDX-License-Identifier: MIT
 
-// php record-change.php KIND FOLDER: changes what was recorded at one event, in the middle of all, and prints its number.
-// KIND is reply (another number is given), swap (two calls of two processes change their places), left (a call is left
-// out, and those behind it are numbered as if it had not been), or gone (the same, and its number is missing).
+// php record-change.php KIND FOLDER [N]: changes a record at one event, and prints the number of the first one that is wrong
+// then. KIND is reply (another number is given, by the first apcu_inc from the N. tenth of the events on), swap (two calls on
+// one key change their places), left (a call is left out, and those behind it are numbered as if it had not been), or gone
+// (the same, and its number is missing). Without N it is in the middle.
 
 declare(strict_types=1);
 
-namespace ApcuRecord;
+const HEAD = 'Pt/Pnumber/Pset/Panswer/Vevent/Vprocess/Vkey/Ckind/Cvalue/Creply/Czero';
+const HEAD_BYTES = 48;
+const STORE = 0;
+const ADD = 1;
+const FETCH = 2;
+const INC = 5;
+const INTEGER = 2;
+const TEXT = 3;
 
-foreach (['lines', 'events/files', 'events/events'] as $name) {
-    require __DIR__ . "/../../$name.php";
-}
 ini_set('memory_limit', '-1');
-[, $kind, $folder] = $argv;
-$files = recorded_files([$folder]);
-$events = iterator_to_array(all_events($files), false);
-[$at, $other] = found_event($events, $kind);
-foreach ($files as $number => $file) {
-    $mine = [];
-    foreach ($events as $place => $event) {
-        if ($event->file === $number && ($place !== $at || !in_array($kind, ['left', 'gone'], true))) {
-            $mine[named($kind, $place, $at, $other)] = $event;
-        }
-    }
-    ksort($mine);
-    $text = implode(array_slice(file($file->path), 0, 7)) . "part 0\n";
-    $moment = null;
-    foreach ($mine as $name => $event) {
-        $reply = $kind === 'reply' && $name === $at ? preg_replace('/\Ai:-?[0-9]+/', 'i:123456789', $event->reply) : $event->reply;
-        $text .= ($event->moment === $moment ? '' : "time i:{$event->moment};\n") . "$name {$event->call}$reply";
-        $moment = $event->moment;
-    }
-    file_put_contents($file->path, $text);
+[, $kind, $folder, $tenth] = [...$argv, '5'];
+$path = glob("$folder/*.record")[0];
+$record = file_get_contents($path);
+preg_match('/\A[^\0]*?\n\n/', $record, $found);
+[$head, $events] = [$found[0], events(substr($record, strlen($found[0])))];
+$at = intdiv(count($events) * (int) $tenth, 10);
+[$at, $other] = match ($kind) {
+    'reply' => [next_counted($events, $at), null],
+    default => two_counted($events, $at, $kind !== 'swap'),
+};
+[$is, $rest] = $events[$at];
+if ($kind === 'reply') {
+    $is['answer']++;
+    $events[$at] = [$is, $rest];
+} elseif ($kind === 'swap') {
+    [$events[$at], $events[$other]] = [$events[$other], $events[$at]];
+} else {
+    array_splice($events, $at, 1);
 }
-echo $at, "\n";
+foreach ($events as $number => [$is, $rest]) {
+    $is['event'] = $kind === 'gone' && $number >= $at ? $number + 1 : $number;
+    $head .= pack('PPPPVVVCCCC', ...array_values($is)) . $rest;
+}
+file_put_contents($path, $head);
+echo $kind === 'left' ? $other - 1 : $at, "\n";
 
-/** The number of the event at a place, when the change is made. */
-function named(string $kind, int $place, int $at, int $other): int
+/** @return list<array{array<string, int>, string}> the head and the bytes of each event */
+function events(string $text): array
 {
-    return match (true) {
-        $kind === 'swap' && $place === $at => $other,
-        $kind === 'swap' && $place === $other => $at,
-        $kind === 'left' && $place > $at => $place - 1,
-        default => $place,
-    };
+    $events = [];
+    for ($at = 0; $at < strlen($text); $at += HEAD_BYTES + $bytes) {
+        $is = unpack(HEAD, $text, $at);
+        $bytes = $is['key'] + match (true) {
+            ($is['kind'] === STORE || $is['kind'] === ADD) && $is['value'] === TEXT => $is['number'],
+            $is['kind'] === FETCH && $is['reply'] === TEXT => $is['answer'],
+            default => 0,
+        };
+        $events[] = [$is, substr($text, $at + HEAD_BYTES, $bytes)];
+    }
+    return $events;
+}
+
+function next_counted(array $events, int $at): int
+{
+    while (!is_counted($events[$at][0])) {
+        $at++;
+    }
+    return $at;
 }
 
 /**
- * The places of a call that counts and of the next one that counts on the same key, from another number. To be swapped
- * they are of two processes; else they stand one right behind the other.
+ * The places of a call that counts and of the next one on the same key, from another number, the nearest behind a place.
+ * Those that are next to one another have no call between that makes up for the first.
  */
-function found_event(array $events, string $kind): array
+function two_counted(array $events, int $at, bool $is_next): array
 {
-    $last = [];
-    for ($at = intdiv(count($events), 2); $at < count($events); $at++) {
-        $key = key_of($events[$at]->call);
-        if (!is_counted($events[$at])) {
-            continue;
-        }
-        $before = $last[$key] ?? null;
-        $last[$key] = $at;
-        if ($before !== null && counted_from($events[$before]) !== counted_from($events[$at])
-            && ($kind === 'swap' ? $events[$before]->file !== $events[$at]->file : $before === $at - 1)
-        ) {
-            return [$before, $at];
+    for ($last = []; $at < count($events); $at++) {
+        [$is, $key] = $events[$at];
+        if (is_counted($is)) {
+            $before = $last[$key] ?? null;
+            if ($before !== null && counted_from($events[$before][0]) !== counted_from($is) && (!$is_next || $before === $at - 1)) {
+                return [$before, $at];
+            }
+            $last[$key] = $at;
         }
     }
-    give_up('no two calls count on one key');
+    exit("no two calls count on one key\n");
 }
 
-function is_counted(Event $event): bool
+function is_counted(array $is): bool
 {
-    return str_starts_with($event->call, 'apcu_inc') && !str_contains($event->call, ' i:0;') && str_starts_with($event->reply, 'i:');
+    return $is['kind'] === INC && $is['number'] !== 0 && $is['reply'] === INTEGER;
 }
 
-function counted_from(Event $event): int
+function counted_from(array $is): int
 {
-    preg_match('/; i:(-?[0-9]+);/', $event->call, $step);
-    return (int) substr($event->reply, 2) - (int) $step[1];
+    return $is['answer'] - $is['number'];
 }

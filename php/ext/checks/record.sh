@@ -1,19 +1,21 @@
 #!/usr/bin/env bash
 # SPDX-License-Identifier: MIT
 # What the extension records is judged by php/judge.php: each reply is right, of the suites for PSR-6 and PSR-16, of the
-# shop of bench/record, of a minute of wrk on php-fpm with eight workers, and of random calls of some processes. One reply
-# that is changed is found, as are two events whose places are changed, and a call that is left out; a build of the
-# extension that does not count now and then is caught, and one that gives rows whose time is over. A folder that can't
-# be judged whole is told. Then what recording costs.
-# Usage: php/ext/checks/record.sh [SO [PROGRAM [CHECK..]]]; it needs what suites.sh needs, php-fpm, nginx and wrk for the
-# minute, and php-dev for the builds that are wrong. CHECK is calls, suites, shop, load, builds or costs; all without
-# one. In the environment VISITS is how many visits each of four clients makes (1500), SECONDS_OF_LOAD how long wrk goes
-# on (60).
+# shop of bench/record, of a minute of wrk on php-fpm with eight workers, of random calls of some processes, and of
+# processes of which 40 are killed, where no event is missing but of calls that had not returned. Each of ten replies that are
+# changed is found, as are two events whose places are changed, and a call that is left out; a build of the extension that
+# does not count now and then is caught, and one that gives rows that have expired. A damaged record is told. Then a record of
+# ten million events, and what recording costs.
+# Usage: php/ext/checks/record.sh [SO [REPLAY [CHECK..]]]; REPLAY is the program apcu_replay, which capi/ builds. It needs
+# what suites.sh needs, php-fpm, nginx and wrk for the minute, and php-dev for the builds that are wrong. CHECK is calls,
+# kills, suites, shop, load, builds, many or costs; all without one. In the environment VISITS is how many visits each of
+# four clients makes (1500), SECONDS_OF_LOAD how long wrk runs (60), EVENTS how many events `many` records (10000000).
 set -eu
 here=$(cd "$(dirname "$0")" && pwd)
 . "$here/common.sh"
 top=$(cd "$here/../../.." && pwd)
-program=${2:-$top/apcu_run}
+replay=$(realpath -- "${2:-$top/capi/apcu_replay}")
+events=${EVENTS:-10000000}
 visits=${VISITS:-1500}
 minute=${SECONDS_OF_LOAD:-60}
 status=0
@@ -22,7 +24,7 @@ status=0
 judge() {
     local folder=$1 wanted=$2 got=0 word
     shift 2
-    php "$top/php/judge.php" --program "$program" "$folder" >"$scratch/verdict" 2>&1 || got=$?
+    php "$top/php/judge.php" --replay "$replay" "$folder" >"$scratch/verdict" 2>&1 || got=$?
     sed 's/^/    /' "$scratch/verdict"
     if [ "$got" != "$wanted" ]; then
         echo "the status is $got and not $wanted: $folder" >&2
@@ -75,24 +77,18 @@ check_shop() {
     judge "$scratch/shop" 0 'each reply is right'
 }
 
-# The shop under load, which is emptied four times a second: so each piece that begins with an empty cache is one that the
-# program takes whole.
 check_load() {
-    local clearer socket="$scratch/load.sock"
+    local socket="$scratch/load.sock"
     command -v wrk >/dev/null || { echo 'no wrk: no minute of it'; return; }
     . "$top/bench/ext/server.sh"
-    mkdir "$scratch/site" "$scratch/load"
-    chmod 777 "$scratch/load"
-    cp "$top/bench/record/site/index.php" "$top/bench/ext/site/hits.php" "$scratch/site/"
-    serve_fpm "$ours" "$socket" 8 -d apc.shm_size=8M -d apc.record_dir="$scratch/load"
+    mkdir "$scratch/site"
+    chmod 711 "$scratch"
+    cp "$top/bench/record/site/index.php" "$scratch/site/"
+    serve_fpm "$ours" "$socket" 8 -d apc.shm_size=8M -d apc.record_dir="$scratch/load" -d apc.record_size=4G
     serve_nginx "$socket" "$scratch/site"
-    php -n -r 'for (;; usleep(250_000)) @file_get_contents($argv[1]);' "http://127.0.0.1:$port/hits.php?clear" &
-    clearer=$!
-    started+=("$clearer")
     echo "the shop on php-fpm with eight workers, $minute seconds of wrk"
     timeout $((minute + 30)) wrk -t2 -c16 -d"${minute}s" --timeout 10s -s "$top/bench/ext/site/visits.lua" \
         "http://127.0.0.1:$port" | sed -n -E 's/^ *([0-9]+ requests .*)/    \1/p; s/^told/    &/p'
-    kill "$clearer"
     stop "$front" "$master"
     judge "$scratch/load" 0 'each reply is right'
 }
@@ -104,18 +100,37 @@ work() {
     php_with "$so" -d apc.shm_size=4M -d apc.record_dir="$folder" "$@" "$here/record-work.php" 6 5000 1
 }
 
+# Judges a record that is changed: changed STATUS WORDS KIND [N]; AT in the words is the event.
+changed() {
+    local wanted=$1 words=$2 at
+    rm -rf "$scratch/changed"
+    cp -r "$scratch/work" "$scratch/changed"
+    at=$(php -n "$here/record-change.php" "$3" "$scratch/changed" "${@:4}")
+    echo "changed ($3) at event $at"
+    judge "$scratch/changed" "$wanted" "${words//AT/$at}"
+}
+
 check_changes() {
-    local kind at
-    for kind in reply swap left gone; do
-        rm -rf "$scratch/changed"
-        cp -r "$scratch/work" "$scratch/changed"
-        at=$(php "$here/record-change.php" "$kind" "$scratch/changed")
-        echo "changed ($kind) at event $at"
-        case $kind in
-            gone) judge "$scratch/changed" 2 "event $at is missing" 'each of these replies is right' ;;
-            *) judge "$scratch/changed" 9 "event $at," 'not the due reply' ;;
-        esac
-    done
+    local tenth
+    for tenth in 0 1 2 3 4 5 6 7 8 9; do changed 9 'event AT,' reply "$tenth"; done
+    changed 9 'event AT,' swap
+    changed 9 'event AT,' left
+    changed 2 'is no event of the next number' gone
+}
+
+# The events of each process are those of its calls that returned, and at most one more.
+check_kills() {
+    php_with "$ours" -d apc.shm_size=8M -d apc.record_dir="$scratch/kills" -d apc.record_size=2G -d error_log=/dev/null \
+        "$here/record-kills.php" 40 >"$scratch/answered"
+    echo "processes that are killed: $(wc -l <"$scratch/answered")"
+    judge "$scratch/kills" 0 'each reply is right'
+    "$replay" --print "$scratch"/kills/*.record |
+        LC_ALL=C awk '/^process / { process = $2 } /^[0-9]+ apcu_/ { count[process]++ } END { for (p in count) print p, count[p] }' |
+        sort >"$scratch/recorded"
+    sort "$scratch/answered" | join -a 1 -e 0 -o 0,1.2,2.2 - "$scratch/recorded" | awk '
+        $3 < $2 || $3 > $2 + 1 { print "process " $1 ": " $2 " calls returned, " $3 " events"; wrong = 1 }
+        { calls += $2; events += $3 }
+        END { printf "    %d calls returned, %d events\n", calls, events; exit wrong }' || status=1
 }
 
 # Builds the extension with one text of a file changed, and judges what it records: wrong NAME FILE OLD NEW
@@ -136,15 +151,15 @@ check_folders() {
     echo 'an empty folder'
     mkdir "$scratch/empty"
     judge "$scratch/empty" 1 'there is no record of the extension'
-    echo 'files of two servers'
+    echo 'records of two servers'
     cp -r "$scratch/work" "$scratch/two"
     cp "$scratch/without"/* "$scratch/two/"
-    judge "$scratch/two" 0 'files of 2 servers'
-    echo 'a file that ends within a line'
+    judge "$scratch/two" 0 'records of 2 servers'
+    echo 'a record that ends within an event'
     cp -r "$scratch/work" "$scratch/cut"
     file=$(ls -S "$scratch/cut"/* | head -n 1)
     truncate -s $(($(stat -c %s "$file") - 3)) "$file"
-    judge "$scratch/cut" 2 'ends within a line' 'each of these replies is right'
+    judge "$scratch/cut" 2 'ends within an event' 'each judged reply is right'
 }
 
 # Milliseconds of processor time of 100,000 stores and fetches.
@@ -183,19 +198,22 @@ check_calls() {
     check_folders
 }
 
+# Memory is that of the cache, whatever the record's length.
+check_many() {
+    php_with "$ours" -d apc.shm_size=64M -d apc.record_dir="$scratch/many" -d apc.record_size=8G "$here/record-many.php" "$events"
+    ls -lh "$scratch"/many/*.record | awk '{ print "    a record of " $5 }'
+    judge "$scratch/many" 0 'each reply is right'
+    rm -r "$scratch/many"
+}
+
 check_builds() {
-    if [ ! -f "$here/../build/cache_c/libcache_c.a" ]; then
-        echo 'no library of the build: no builds that are wrong'
-        return
-    fi
-    wrong uncounted shm.c '	if (UNEXPECTED(apcu_is_recorded)) {
-		apcu_record_note' '	if (request->kind == CACHE_COUNT && answer.kind == CACHE_INT && apcu_shm->events % 500 == 0) {
+    wrong uncounted shm.c '	if (UNEXPECTED(apcu_is_recorded) && apcu_record_note' '	static unsigned calls;
+	if (request->kind == CACHE_COUNT && answer.kind == CACHE_INT && ++calls % 50 == 0) {
 		cache_request back = *request;
 		back.number = 0 - back.number;
 		cache_ask(apcu_shm->cache, &back, (const uint8_t *) ZSTR_VAL(key), ZSTR_LEN(key), (const uint8_t *) "", 0);
 	}
-	if (UNEXPECTED(apcu_is_recorded)) {
-		apcu_record_note'
+	if (UNEXPECTED(apcu_is_recorded) && apcu_record_note'
     wrong outlived shm.c '	cache_answer answer = cache_ask(apcu_shm->cache, request,
 ' '	cache_request late = *request;
 	late.t -= late.kind == CACHE_LOOK;
@@ -203,6 +221,6 @@ check_builds() {
 '
 }
 
-[ $# -gt 2 ] && shift 2 || set -- calls suites shop load builds costs
+[ $# -gt 2 ] && shift 2 || set -- calls kills suites shop load builds many costs
 for name in "$@"; do "check_$name"; done
 exit "$status"

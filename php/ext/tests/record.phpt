@@ -1,5 +1,5 @@
 --TEST--
-apc.record_dir: each event with its number, moment, call and reply
+apc.record_dir: each event with its number, process, moment, call and reply
 --SKIPIF--
 <?php
 require __DIR__ . '/common.inc';
@@ -39,7 +39,7 @@ shm-size 33554432
 slots 4096
 ttl 0
 values 1
-part 0
+process 0
 time now
 0 apcu_store s:1:"a"; s:6:"hello<0>";
 b:1;
@@ -101,7 +101,7 @@ shm-size 33554432
 slots 4096
 ttl 0
 values 0
-part 0
+process 0
 time now
 0 apcu_store s:1:"a"; x:31;
 b:1;
