@@ -1,3 +1,4 @@
+/* SPDX-License-Identifier: MIT */
 /* Deaths in lanes. A child is stepped, and killed behind its first instruction, its second, and so
  * on:
  * - a reader, from before it takes its lane until it has released it, while a writer waits for it;

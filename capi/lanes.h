@@ -1,3 +1,4 @@
+/* SPDX-License-Identifier: MIT */
 /* Reads that run at the same time, and a lock (robust_lock.h) for those that change what is read.
  * For the C here and the extension for PHP; a file that includes it defines _GNU_SOURCE first.
  *

@@ -1,3 +1,4 @@
+/* SPDX-License-Identifier: MIT */
 /* All interleavings of two readers and a writer over a model of lanes.h: the lock's word, two lanes
  * with their notes, the second of the notes, and the kernel, which marks the words of a process
  * that dies. A process makes one access to shared memory in a step, and may die before each of its

@@ -1,3 +1,4 @@
+/* SPDX-License-Identifier: MIT */
 /* The file in which the extension for PHP records the calls of its cache (apc.record_dir), and which
  * apcu_replay reads.
  *

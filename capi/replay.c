@@ -1,3 +1,4 @@
+/* SPDX-License-Identifier: MIT */
 /* apcu_replay: plays a record of the extension for PHP on a cache of the library, which is proved. This
  * program, which reads the record and compares the answers, is C: it is tested, not proved.
  *

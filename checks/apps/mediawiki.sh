@@ -1,4 +1,5 @@
 #!/usr/bin/env bash
+# SPDX-License-Identifier: MIT
 # MediaWiki of Debian over the extension and over PHP's APCu: the pages of both are compared, and the record of the
 # extension is judged. Nothing is installed: the package is unpacked in a scratch folder, its database is SQLite, and PHP's
 # own server runs it.

@@ -1,4 +1,4 @@
-<?php
+<?php // SPDX-License-Identifier: MIT
 
 // php record-kills.php KILLS: four processes call the cache, each call being one event, until one of them is killed; another
 // one takes its place, until there were KILLS kills. Then it prints for each process how many of its calls had returned.

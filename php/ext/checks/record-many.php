@@ -1,4 +1,4 @@
-<?php
+<?php // SPDX-License-Identifier: MIT
 
 // php record-many.php EVENTS: makes that number of calls, of each ten one store, six fetches of rows and one of none, and two counts.
 
