@@ -5,6 +5,8 @@ them, checks/edits.txt.
   edits.sh [CRATE..]      tries the edits of these crates, by default of all, and writes the ledger crate by crate
   edits.sh --changed ..   tries them only in the crates that changed since the ledger was written
   edits.sh --check        tries nothing, and names each crate whose edits have to be tried again, in a second
+  edits.sh --owe ..       tries nothing, and notes that the edits of these crates are still to be tried on the text as it
+                          is: --check then reports them and does not fail, until the text changes
 
 An edit turns one function into a wrong one. Its outcome depends on the crate's text and on the statements of the crates
 below it: the ledger has a sum of each. `rt ci` proves what is below, on a copy of the tree, or takes what it has kept.
@@ -37,7 +39,8 @@ LEDGER = f"{HOME}/checks/edits.txt"
 SELF = os.path.basename(sys.argv[0]).replace(".py", ".sh")
 HEAD = """\
 # What came of the edits in crates/*/more-edits, as checks/edits.sh tried them. It writes this file; .ci/run compares the sums.
-# A crate's line: a sum of its own text and edits, one of the statements of the crates below it, and how many edits were refused.
+# A crate's line: a sum of its own text and edits, one of the statements of the crates below it, and how many edits were refused,
+# or `untried` if they are still to be tried on that text.
 # An edit's line: the function that the check refused, and the goals that failed there.
 """
 # What a check takes of memory at the most, in kB.
@@ -217,6 +220,20 @@ def why_old(name, crates, rows):
     return None
 
 
+def is_owed(name, rows):
+    return name in rows and rows[name][0].endswith(" untried")
+
+
+def owe(names, crates):
+    """Notes the crates whose edits were not tried on this text."""
+    rows = read_ledger()
+    for name in names:
+        if why_old(name, crates, rows):
+            own, under = sums(name, crates)
+            rows[name] = [f"{name} own={own} below={under} edits={len(edits_of(name))} untried"]
+    write_ledger(rows)
+
+
 def check(crates, names):
     """Compares the ledger with the tree."""
     rows, old, missed = read_ledger(), [], 0
@@ -226,6 +243,8 @@ def check(crates, names):
             print(f"{name}: its edits have to be tried, as {why}")
             old.append(name)
             continue
+        if is_owed(name, rows):
+            print(f"{name}: {len(edits_of(name))} edits are still to be tried: checks/edits.sh {name}")
         for line in rows[name][1:]:
             if re.match(rf"\S+ ({'|'.join(FAULTS)})", line):
                 print(line)
@@ -669,6 +688,7 @@ def main():
     parser = argparse.ArgumentParser(prog="edits.sh", description=__doc__, formatter_class=argparse.RawDescriptionHelpFormatter, usage=argparse.SUPPRESS)
     parser.add_argument("--check", action="store_true", help=argparse.SUPPRESS)
     parser.add_argument("--changed", action="store_true", help=argparse.SUPPRESS)
+    parser.add_argument("--owe", action="store_true", help=argparse.SUPPRESS)
     parser.add_argument("--jobs", type=int, default=0, help=argparse.SUPPRESS)
     parser.add_argument("crates", nargs="*", help=argparse.SUPPRESS)
     given = parser.parse_args()
@@ -680,9 +700,12 @@ def main():
     names = [name for name in every if name in given.crates] if given.crates else every
     if given.check:
         return check(crates, every)
+    if given.owe:
+        owe(names, crates)
+        return 0
     rows = read_ledger()
     if given.changed:
-        names = [name for name in names if why_old(name, crates, rows)]
+        names = [name for name in names if why_old(name, crates, rows) or is_owed(name, rows)]
         if set(rows) - set(every):
             write_ledger({name: rows[name] for name in rows if name in every})
     if not names:

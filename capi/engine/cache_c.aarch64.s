@@ -7,7 +7,7 @@
  *
  * The verdict on what was compiled:
  *
- *   logic=proved functions=70 axioms=3 target=aarch64-unknown-linux-gnu sum=dac8208d650f15bf native=nat,char,string logic-built=trusted libraries-built=trusted statements=trusted
+ *   logic=proved functions=73 axioms=3 target=aarch64-unknown-linux-gnu sum=dac8208d650f15bf native=nat,char,string logic-built=trusted libraries-built=trusted statements=trusted
  *   rattle-kit-13f logic dac8208d650f15bf
  *
  * The crates, each with the SHA-256 of its sources without comments:
@@ -27,7 +27,7 @@
  *   8404c06f83e474f4210364df5ac447bcc5ba2e1deb2a7ef840646fbef1e16378 cache_core
  *   fd2865c073b76da72588dc4984d33af3824efe64dea62c5bf9738d17cff12082 counter_entry
  *   2346a4826369b0499eead75d3fb18fb77578442a8e8a6cce47973b3ecf5f1a9b cache_info
- *   4a35e452eca299d5c866acce0a0e3204cf9d8c8afa9199fca827a07f59e78d52 cache_c
+ *   ff7d5720c97cca3a4cd99338e7a7b28e99633ca50ae5e9ef2d350f19add9f404 cache_c
  */
 	.file	"rattle"
 	.section	".text.unlikely.late_words::late_words::LateWords::pad","ax",@progbits
@@ -8035,6 +8035,278 @@ cache_list_rows_unchecked:
 .Lfunc_end41:
 	.size	cache_list_rows_unchecked, .Lfunc_end41-cache_list_rows_unchecked
 
+	.section	.text.cache_list_slots_unchecked,"ax",@progbits
+	.globl	cache_list_slots_unchecked
+	.p2align	2
+	.type	cache_list_slots_unchecked,@function
+cache_list_slots_unchecked:
+	cmp	w1, w2
+	b.hs	.LBB42_54
+	stp	x24, x23, [sp, #-48]!
+	mov	w8, w1
+	mov	x1, xzr
+	mov	w9, w2
+	mov	w8, w8
+	add	x10, x3, #40
+	stp	x22, x21, [sp, #16]
+	stp	x20, x19, [sp, #32]
+	b	.LBB42_4
+.LBB42_2:
+	cbnz	w12, .LBB42_55
+.LBB42_3:
+	add	x8, x8, #1
+	add	x1, x11, x1
+	cmp	x8, x9
+	b.eq	.LBB42_56
+.LBB42_4:
+	ldr	w11, [x0]
+	cmp	x8, x11
+	b.hs	.LBB42_7
+	ldr	x11, [x0, #184]
+	cmp	x11, x8
+	b.ls	.LBB42_9
+	ldr	x11, [x0, #176]
+	ldr	x13, [x11, x8, lsl #3]
+	mov	x12, xzr
+	sub	x11, x4, x1
+	cbnz	x11, .LBB42_10
+	b	.LBB42_43
+.LBB42_7:
+	b.ne	.LBB42_9
+	ldr	w13, [x0, #104]
+	mov	x12, xzr
+	sub	x11, x4, x1
+	cbnz	x11, .LBB42_10
+	b	.LBB42_43
+.LBB42_9:
+	mov	w13, wzr
+	mov	x12, xzr
+	sub	x11, x4, x1
+	cbz	x11, .LBB42_43
+.LBB42_10:
+	mov	w14, #88
+	mul	x14, x1, x14
+	add	x14, x10, x14
+	b	.LBB42_12
+.LBB42_11:
+	ldr	x15, [x0, #176]
+	ldr	x13, [x15, x13, lsl #3]
+	add	x12, x12, #1
+	add	x14, x14, #88
+	cmp	x11, x12
+	b.eq	.LBB42_44
+.LBB42_12:
+	cbz	w13, .LBB42_43
+	ldr	x6, [x0, #184]
+	mov	w15, w13
+	cmp	x6, x15
+	b.ls	.LBB42_22
+	ldr	x16, [x0, #176]
+	ldr	x15, [x16, x15, lsl #3]
+	add	w16, w13, #2
+	cmp	x6, x16
+	b.hi	.LBB42_23
+.LBB42_15:
+	mov	w16, wzr
+	add	w17, w13, #4
+	cmp	x6, x17
+	b.hi	.LBB42_24
+.LBB42_16:
+	mov	w17, wzr
+	add	w18, w13, #5
+	cmp	x6, x18
+	b.hi	.LBB42_25
+.LBB42_17:
+	mov	x18, xzr
+	add	w3, w13, #6
+	cmp	x6, x3
+	b.hi	.LBB42_26
+.LBB42_18:
+	mov	x3, xzr
+	add	w5, w13, #7
+	cmp	x6, x5
+	b.hi	.LBB42_27
+.LBB42_19:
+	mov	x5, xzr
+	add	w7, w13, #8
+	cmp	x6, x7
+	b.hi	.LBB42_28
+.LBB42_20:
+	mov	x7, xzr
+	add	w19, w13, #9
+	cmp	x6, x19
+	b.hi	.LBB42_29
+.LBB42_21:
+	mov	x19, xzr
+	b	.LBB42_30
+.LBB42_22:
+	mov	w15, wzr
+	add	w16, w13, #2
+	cmp	x6, x16
+	b.ls	.LBB42_15
+.LBB42_23:
+	ldr	x17, [x0, #176]
+	ldr	x16, [x17, x16, lsl #3]
+	add	w17, w13, #4
+	cmp	x6, x17
+	b.ls	.LBB42_16
+.LBB42_24:
+	ldr	x18, [x0, #176]
+	ldr	x17, [x18, x17, lsl #3]
+	add	w18, w13, #5
+	cmp	x6, x18
+	b.ls	.LBB42_17
+.LBB42_25:
+	ldr	x3, [x0, #176]
+	ldr	x18, [x3, x18, lsl #3]
+	add	w3, w13, #6
+	cmp	x6, x3
+	b.ls	.LBB42_18
+.LBB42_26:
+	ldr	x5, [x0, #176]
+	ldr	x3, [x5, x3, lsl #3]
+	add	w5, w13, #7
+	cmp	x6, x5
+	b.ls	.LBB42_19
+.LBB42_27:
+	ldr	x7, [x0, #176]
+	ldr	x5, [x7, x5, lsl #3]
+	add	w7, w13, #8
+	cmp	x6, x7
+	b.ls	.LBB42_20
+.LBB42_28:
+	ldr	x19, [x0, #176]
+	ldr	x7, [x19, x7, lsl #3]
+	add	w19, w13, #9
+	cmp	x6, x19
+	b.ls	.LBB42_21
+.LBB42_29:
+	ldr	x20, [x0, #176]
+	ldr	x19, [x20, x19, lsl #3]
+.LBB42_30:
+	add	w20, w13, #12
+	and	w21, w16, #0x7
+	add	w22, w20, w16, lsr #3
+	add	w21, w21, #7
+	add	w22, w22, w21, lsr #3
+	cmp	x6, x22
+	b.ls	.LBB42_36
+	ldr	x23, [x0, #176]
+	ldr	x24, [x23, x22, lsl #3]
+	ands	x21, x24, #0x7
+	b.eq	.LBB42_40
+	cmp	x21, #1
+	b.eq	.LBB42_39
+	cmp	x21, #2
+	b.ne	.LBB42_41
+	add	w21, w22, #1
+	cmp	x6, x21
+	b.ls	.LBB42_42
+	ldr	x21, [x23, x21, lsl #3]
+	mov	w6, wzr
+	mov	x22, xzr
+	mov	w23, #2
+	b	.LBB42_37
+.LBB42_36:
+	mov	w23, wzr
+	mov	w6, wzr
+	mov	x21, xzr
+	mov	x22, xzr
+.LBB42_37:
+	stp	w13, w8, [x14, #-40]
+	add	w13, w13, #1
+	stp	w20, w16, [x14, #-32]
+	stp	w17, w15, [x14, #-24]
+	stp	x18, x3, [x14, #-16]
+	stp	x5, x7, [x14]
+	str	x19, [x14, #16]
+	stp	w23, w6, [x14, #24]
+	stp	x21, x22, [x14, #32]
+	ldr	x15, [x0, #184]
+	cmp	x15, x13
+	b.hi	.LBB42_11
+	mov	w13, wzr
+	add	x12, x12, #1
+	add	x14, x14, #88
+	cmp	x11, x12
+	b.ne	.LBB42_12
+	b	.LBB42_44
+.LBB42_39:
+	cmp	x24, #1
+	mov	w6, wzr
+	mov	x22, xzr
+	cset	w21, ne
+	mov	w23, #1
+	b	.LBB42_37
+.LBB42_40:
+	mov	w23, wzr
+	mov	w6, wzr
+	mov	x22, x21
+	b	.LBB42_37
+.LBB42_41:
+	ubfx	x24, x24, #3, #32
+	cmp	x21, #3
+	mov	w6, #3
+	cinc	w23, w6, ne
+	csinc	w6, wzr, w22, ne
+	mov	x21, xzr
+	csel	x22, x24, xzr, eq
+	b	.LBB42_37
+.LBB42_42:
+	mov	w6, wzr
+	mov	x21, xzr
+	mov	x22, xzr
+	mov	w23, #2
+	b	.LBB42_37
+.LBB42_43:
+	cmp	x12, x11
+	mov	x11, x12
+	b.lo	.LBB42_3
+.LBB42_44:
+	ldr	w12, [x0]
+	cmp	x8, x12
+	b.hs	.LBB42_47
+	ldr	x12, [x0, #184]
+	cmp	x12, x8
+	b.ls	.LBB42_3
+	ldr	x12, [x0, #176]
+	ldr	x12, [x12, x8, lsl #3]
+	cbnz	x11, .LBB42_49
+	b	.LBB42_2
+.LBB42_47:
+	b.ne	.LBB42_3
+	ldr	w12, [x0, #104]
+	cbz	x11, .LBB42_2
+.LBB42_49:
+	cbz	w12, .LBB42_2
+	ldr	x13, [x0, #184]
+	mov	w14, #1
+.LBB42_51:
+	add	w12, w12, #1
+	cmp	x13, x12
+	b.ls	.LBB42_3
+	ldr	x15, [x0, #176]
+	cmp	x14, x11
+	ldr	x12, [x15, x12, lsl #3]
+	b.hs	.LBB42_2
+	add	x14, x14, #1
+	cbnz	w12, .LBB42_51
+	b	.LBB42_2
+.LBB42_54:
+	mov	x1, xzr
+	mov	w0, w2
+	ret
+.LBB42_55:
+	mov	w2, w8
+.LBB42_56:
+	ldp	x20, x19, [sp, #32]
+	ldp	x22, x21, [sp, #16]
+	ldp	x24, x23, [sp], #48
+	mov	w0, w2
+	ret
+.Lfunc_end42:
+	.size	cache_list_slots_unchecked, .Lfunc_end42-cache_list_slots_unchecked
+
 	.section	.text.cache_get_view_unchecked,"ax",@progbits
 	.globl	cache_get_view_unchecked
 	.p2align	2
@@ -8045,8 +8317,8 @@ cache_get_view_unchecked:
 	ldr	w1, [x0, #200]
 	orr	x0, x8, x9, lsl #32
 	ret
-.Lfunc_end42:
-	.size	cache_get_view_unchecked, .Lfunc_end42-cache_get_view_unchecked
+.Lfunc_end43:
+	.size	cache_get_view_unchecked, .Lfunc_end43-cache_get_view_unchecked
 
 	.section	.text.cache_find_shared_unchecked,"ax",@progbits
 	.globl	cache_find_shared_unchecked
@@ -8060,300 +8332,300 @@ cache_find_shared_unchecked:
 	csel	x9, x10, xzr, eq
 	cmp	x3, #0
 	csel	x12, x10, xzr, eq
-	cbz	x11, .LBB43_3
+	cbz	x11, .LBB44_3
 	mov	w14, wzr
 	mov	x13, xzr
 	mov	x5, xzr
 	mov	w15, wzr
 	mov	w18, #10
-.LBB43_2:
+.LBB44_2:
 	stp	w18, w14, [x8]
 	stp	x13, x5, [x8, #8]
 	stp	w15, wzr, [x8, #24]
 	ldp	x20, x19, [sp], #16
 	ret
-.LBB43_3:
+.LBB44_3:
 	ldp	w11, w10, [x0]
 	cmp	w11, #1, lsl #12
-	b.eq	.LBB43_6
-	cbz	w11, .LBB43_81
+	b.eq	.LBB44_6
+	cbz	w11, .LBB44_81
 	udiv	x13, x5, x11
 	msub	x11, x13, x11, x5
 	cmp	x2, x11
-	b.hi	.LBB43_7
-	b	.LBB43_68
-.LBB43_6:
+	b.hi	.LBB44_7
+	b	.LBB44_68
+.LBB44_6:
 	and	x11, x5, #0xfff
 	cmp	x2, x11
-	b.ls	.LBB43_68
-.LBB43_7:
+	b.ls	.LBB44_68
+.LBB44_7:
 	mov	x13, xzr
 	mov	w14, wzr
 	mov	w18, #5
-	cbz	w10, .LBB43_60
+	cbz	w10, .LBB44_60
 	add	x9, x1, x9
 	mov	x5, x13
 	mov	w15, w14
 	ldr	x7, [x9, x11, lsl #3]
-	cbz	w7, .LBB43_2
+	cbz	w7, .LBB44_2
 	and	w11, w4, #0x7
 	add	w11, w11, #7
 	lsr	w11, w11, #3
 	add	w11, w11, w4, lsr #3
-	cbz	w11, .LBB43_38
+	cbz	w11, .LBB44_38
 	cmp	x4, #8
 	add	x12, x3, x12
 	mov	w16, wzr
-	b.hs	.LBB43_46
+	b.hs	.LBB44_46
 	lsl	x17, x11, #3
 	sub	x0, x4, #6
 	sub	x1, x4, #2
 	mov	w3, w7
-.LBB43_12:
+.LBB44_12:
 	add	w13, w3, #2
 	cmp	x2, x13
-	b.ls	.LBB43_14
+	b.ls	.LBB44_14
 	ldr	x13, [x9, x13, lsl #3]
 	cmp	x13, x4
-	b.eq	.LBB43_15
-	b	.LBB43_35
-.LBB43_14:
+	b.eq	.LBB44_15
+	b	.LBB44_35
+.LBB44_14:
 	cmp	xzr, x4
-	b.ne	.LBB43_35
-.LBB43_15:
+	b.ne	.LBB44_35
+.LBB44_15:
 	mov	x13, xzr
 	mov	w14, #12
 	mov	x15, x4
-.LBB43_16:
+.LBB44_16:
 	add	w18, w3, w14
 	cmp	x2, x18
-	b.ls	.LBB43_23
+	b.ls	.LBB44_23
 	ldr	x18, [x9, x18, lsl #3]
 	cmp	x15, #7
-	b.hi	.LBB43_24
-.LBB43_18:
+	b.hi	.LBB44_24
+.LBB44_18:
 	cmp	x15, #4
-	b.hs	.LBB43_25
+	b.hs	.LBB44_25
 	cmp	x15, #1
-	b.eq	.LBB43_28
+	b.eq	.LBB44_28
 	mov	x5, x15
-	cbz	x15, .LBB43_33
+	cbz	x15, .LBB44_33
 	ldrh	w5, [x12, x13]
 	cmp	x1, x13
-	b.eq	.LBB43_33
+	b.eq	.LBB44_33
 	add	x7, x12, x13
 	ldrb	w7, [x7, #2]
 	orr	x5, x5, x7, lsl #16
-	b	.LBB43_33
-.LBB43_23:
+	b	.LBB44_33
+.LBB44_23:
 	mov	x18, xzr
 	cmp	x15, #7
-	b.ls	.LBB43_18
-.LBB43_24:
+	b.ls	.LBB44_18
+.LBB44_24:
 	ldr	x5, [x12, x13]
-	b	.LBB43_33
-.LBB43_25:
+	b	.LBB44_33
+.LBB44_25:
 	cmp	x15, #4
 	add	x5, x12, x13
-	b.eq	.LBB43_29
+	b.eq	.LBB44_29
 	cmp	x15, #5
-	b.ne	.LBB43_30
+	b.ne	.LBB44_30
 	ldrb	w7, [x5, #4]
-	b	.LBB43_32
-.LBB43_28:
+	b	.LBB44_32
+.LBB44_28:
 	ldrb	w5, [x12, x13]
-	b	.LBB43_33
-.LBB43_29:
+	b	.LBB44_33
+.LBB44_29:
 	mov	x7, xzr
-	b	.LBB43_32
-.LBB43_30:
+	b	.LBB44_32
+.LBB44_30:
 	add	x19, x12, x13
 	ldrb	w7, [x5, #4]
 	cmp	x0, x13
 	ldrb	w20, [x19, #5]
 	orr	x7, x7, x20, lsl #8
-	b.eq	.LBB43_32
+	b.eq	.LBB44_32
 	ldrb	w19, [x19, #6]
 	orr	x7, x7, x19, lsl #16
-.LBB43_32:
+.LBB44_32:
 	ldr	w5, [x5]
 	orr	x5, x5, x7, lsl #32
-.LBB43_33:
+.LBB44_33:
 	cmp	x18, x5
-	b.ne	.LBB43_35
+	b.ne	.LBB44_35
 	add	x13, x13, #8
 	sub	x15, x15, #8
 	add	w14, w14, #1
 	cmp	x17, x13
-	b.ne	.LBB43_16
-	b	.LBB43_61
-.LBB43_35:
+	b.ne	.LBB44_16
+	b	.LBB44_61
+.LBB44_35:
 	add	w15, w3, #1
 	cmp	x2, x15
-	b.ls	.LBB43_68
+	b.ls	.LBB44_68
 	add	w16, w16, #1
 	mov	x13, xzr
 	mov	w14, wzr
 	cmp	w16, w10
 	mov	w18, #5
-	b.hs	.LBB43_60
+	b.hs	.LBB44_60
 	ldr	x3, [x9, x15, lsl #3]
 	mov	x5, x13
 	mov	w15, w14
-	cbnz	w3, .LBB43_12
-	b	.LBB43_2
-.LBB43_38:
+	cbnz	w3, .LBB44_12
+	b	.LBB44_2
+.LBB44_38:
 	mov	w12, #1
-.LBB43_39:
+.LBB44_39:
 	add	w13, w7, #2
 	cmp	x2, x13
-	b.ls	.LBB43_41
+	b.ls	.LBB44_41
 	ldr	x13, [x9, x13, lsl #3]
-	b	.LBB43_42
-.LBB43_41:
+	b	.LBB44_42
+.LBB44_41:
 	mov	x13, xzr
-.LBB43_42:
+.LBB44_42:
 	cmp	x13, x4
-	b.eq	.LBB43_63
+	b.eq	.LBB44_63
 	add	w15, w7, #1
 	cmp	x2, x15
-	b.ls	.LBB43_68
+	b.ls	.LBB44_68
 	mov	x13, xzr
 	mov	w14, wzr
 	cmp	w12, w10
 	mov	w18, #5
-	b.hs	.LBB43_60
+	b.hs	.LBB44_60
 	ldr	x7, [x9, x15, lsl #3]
 	add	w12, w12, #1
 	mov	x5, x13
 	mov	w15, w14
-	cbnz	w7, .LBB43_39
-	b	.LBB43_2
-.LBB43_46:
+	cbnz	w7, .LBB44_39
+	b	.LBB44_2
+.LBB44_46:
 	mov	w13, #64
 	add	x0, x12, x4
 	mov	w1, w7
 	sub	x17, x13, x4, lsl #3
-.LBB43_47:
+.LBB44_47:
 	add	w13, w1, #2
 	cmp	x2, x13
-	b.ls	.LBB43_57
+	b.ls	.LBB44_57
 	ldr	x13, [x9, x13, lsl #3]
 	cmp	x13, x4
-	b.ne	.LBB43_57
+	b.ne	.LBB44_57
 	add	w3, w1, #12
 	mov	x13, x4
 	mov	x14, x17
 	mov	x15, x12
 	mov	x18, x11
-.LBB43_50:
+.LBB44_50:
 	mov	w3, w3
 	cmp	x2, x3
-	b.ls	.LBB43_53
+	b.ls	.LBB44_53
 	ldr	x5, [x9, x3, lsl #3]
 	subs	x13, x13, #8
-	b.hs	.LBB43_54
-.LBB43_52:
+	b.hs	.LBB44_54
+.LBB44_52:
 	ldur	x7, [x0, #-8]
 	lsr	x7, x7, x14
-	b	.LBB43_55
-.LBB43_53:
+	b	.LBB44_55
+.LBB44_53:
 	mov	x5, xzr
 	subs	x13, x13, #8
-	b.lo	.LBB43_52
-.LBB43_54:
+	b.lo	.LBB44_52
+.LBB44_54:
 	ldr	x7, [x15]
-.LBB43_55:
+.LBB44_55:
 	cmp	x5, x7
-	b.ne	.LBB43_57
+	b.ne	.LBB44_57
 	sub	x18, x18, #1
 	add	x15, x15, #8
 	add	x14, x14, #64
 	add	w3, w3, #1
-	cbnz	x18, .LBB43_50
-	b	.LBB43_62
-.LBB43_57:
+	cbnz	x18, .LBB44_50
+	b	.LBB44_62
+.LBB44_57:
 	add	w15, w1, #1
 	cmp	x2, x15
-	b.ls	.LBB43_68
+	b.ls	.LBB44_68
 	add	w16, w16, #1
 	mov	x13, xzr
 	mov	w14, wzr
 	cmp	w16, w10
 	mov	w18, #5
-	b.hs	.LBB43_60
+	b.hs	.LBB44_60
 	ldr	x1, [x9, x15, lsl #3]
 	mov	x5, x13
 	mov	w15, w14
-	cbnz	w1, .LBB43_47
-	b	.LBB43_2
-.LBB43_60:
+	cbnz	w1, .LBB44_47
+	b	.LBB44_2
+.LBB44_60:
 	stp	w18, w14, [x8]
 	stp	x13, x13, [x8, #8]
 	stp	w14, wzr, [x8, #24]
 	ldp	x20, x19, [sp], #16
 	ret
-.LBB43_61:
+.LBB44_61:
 	mov	w15, w3
 	add	w10, w3, #4
 	cmp	x2, x10
-	b.hi	.LBB43_64
-	b	.LBB43_69
-.LBB43_62:
+	b.hi	.LBB44_64
+	b	.LBB44_69
+.LBB44_62:
 	mov	w15, w1
 	add	w10, w1, #4
 	cmp	x2, x10
-	b.hi	.LBB43_64
-	b	.LBB43_69
-.LBB43_63:
+	b.hi	.LBB44_64
+	b	.LBB44_69
+.LBB44_63:
 	mov	w15, w7
 	add	w10, w7, #4
 	cmp	x2, x10
-	b.ls	.LBB43_69
-.LBB43_64:
+	b.ls	.LBB44_69
+.LBB44_64:
 	ldr	x10, [x9, x10, lsl #3]
-	cbz	x10, .LBB43_69
+	cbz	x10, .LBB44_69
 	add	w12, w15, #5
 	cmp	x2, x12
-	b.ls	.LBB43_67
+	b.ls	.LBB44_67
 	ldr	x12, [x9, x12, lsl #3]
 	adds	x10, x10, x12
 	csinv	x10, x10, xzr, lo
-.LBB43_67:
+.LBB44_67:
 	cmp	x10, x6
-	b.hs	.LBB43_69
-.LBB43_68:
+	b.hs	.LBB44_69
+.LBB44_68:
 	mov	w18, #5
 	stp	w18, wzr, [x8]
 	stp	xzr, xzr, [x8, #8]
 	stp	wzr, wzr, [x8, #24]
 	ldp	x20, x19, [sp], #16
 	ret
-.LBB43_69:
+.LBB44_69:
 	add	w10, w11, w15
 	add	w10, w10, #12
 	cmp	x2, x10
-	b.ls	.LBB43_75
+	b.ls	.LBB44_75
 	ldr	x11, [x9, x10, lsl #3]
 	ands	x13, x11, #0x7
-	b.eq	.LBB43_77
+	b.eq	.LBB44_77
 	cmp	x13, #1
-	b.eq	.LBB43_76
+	b.eq	.LBB44_76
 	cmp	x13, #2
-	b.ne	.LBB43_78
+	b.ne	.LBB44_78
 	add	w10, w10, #1
 	cmp	x2, x10
-	b.ls	.LBB43_79
+	b.ls	.LBB44_79
 	ldr	x13, [x9, x10, lsl #3]
 	mov	w14, wzr
-	b	.LBB43_80
-.LBB43_75:
+	b	.LBB44_80
+.LBB44_75:
 	stp	wzr, wzr, [x8]
 	stp	xzr, xzr, [x8, #8]
 	stp	w15, wzr, [x8, #24]
 	ldp	x20, x19, [sp], #16
 	ret
-.LBB43_76:
+.LBB44_76:
 	cmp	x11, #1
 	cset	w13, ne
 	mov	w18, #1
@@ -8362,13 +8634,13 @@ cache_find_shared_unchecked:
 	stp	w15, wzr, [x8, #24]
 	ldp	x20, x19, [sp], #16
 	ret
-.LBB43_77:
+.LBB44_77:
 	stp	wzr, wzr, [x8]
 	stp	x13, x13, [x8, #8]
 	stp	w15, wzr, [x8, #24]
 	ldp	x20, x19, [sp], #16
 	ret
-.LBB43_78:
+.LBB44_78:
 	ubfx	x9, x11, #3, #32
 	cmp	x13, #3
 	mov	w11, #3
@@ -8380,20 +8652,20 @@ cache_find_shared_unchecked:
 	stp	w15, wzr, [x8, #24]
 	ldp	x20, x19, [sp], #16
 	ret
-.LBB43_79:
+.LBB44_79:
 	mov	w14, wzr
 	mov	x13, xzr
-.LBB43_80:
+.LBB44_80:
 	mov	w18, #2
 	stp	w18, w14, [x8]
 	stp	x13, xzr, [x8, #8]
 	stp	w15, wzr, [x8, #24]
 	ldp	x20, x19, [sp], #16
 	ret
-.LBB43_81:
+.LBB44_81:
 	brk	#0x1
-.Lfunc_end43:
-	.size	cache_find_shared_unchecked, .Lfunc_end43-cache_find_shared_unchecked
+.Lfunc_end44:
+	.size	cache_find_shared_unchecked, .Lfunc_end44-cache_find_shared_unchecked
 
 	.ident	"rattle logic=dac8208d650f15bf3e2dc313a14fa4c783a3acf887bdfab66e1714b038d9e11b"
 	.section	".note.GNU-stack","",@progbits

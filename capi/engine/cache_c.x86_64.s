@@ -7,7 +7,7 @@
  *
  * The verdict on what was compiled:
  *
- *   logic=proved functions=70 axioms=3 target=x86_64-unknown-linux-gnu sum=dac8208d650f15bf native=nat,char,string logic-built=trusted libraries-built=trusted statements=trusted
+ *   logic=proved functions=73 axioms=3 target=x86_64-unknown-linux-gnu sum=dac8208d650f15bf native=nat,char,string logic-built=trusted libraries-built=trusted statements=trusted
  *   rattle-kit-13f logic dac8208d650f15bf
  *
  * The crates, each with the SHA-256 of its sources without comments:
@@ -27,7 +27,7 @@
  *   8404c06f83e474f4210364df5ac447bcc5ba2e1deb2a7ef840646fbef1e16378 cache_core
  *   fd2865c073b76da72588dc4984d33af3824efe64dea62c5bf9738d17cff12082 counter_entry
  *   2346a4826369b0499eead75d3fb18fb77578442a8e8a6cce47973b3ecf5f1a9b cache_info
- *   4a35e452eca299d5c866acce0a0e3204cf9d8c8afa9199fca827a07f59e78d52 cache_c
+ *   ff7d5720c97cca3a4cd99338e7a7b28e99633ca50ae5e9ef2d350f19add9f404 cache_c
  */
 	.file	"rattle"
 	.section	".text.unlikely.late_words::late_words::LateWords::pad","ax",@progbits
@@ -9317,6 +9317,338 @@ cache_list_rows_unchecked:
 .Lfunc_end41:
 	.size	cache_list_rows_unchecked, .Lfunc_end41-cache_list_rows_unchecked
 
+	.section	.text.cache_list_slots_unchecked,"ax",@progbits
+	.globl	cache_list_slots_unchecked
+	.p2align	4
+	.type	cache_list_slots_unchecked,@function
+cache_list_slots_unchecked:
+	pushq	%rbp
+	pushq	%r15
+	pushq	%r14
+	pushq	%r13
+	pushq	%r12
+	pushq	%rbx
+	movq	%r8, -16(%rsp)
+	movq	%rcx, -32(%rsp)
+	cmpl	%edx, %esi
+	jae	.LBB42_57
+	movl	%esi, %ebp
+	movl	%edx, -68(%rsp)
+	movl	%edx, %eax
+	movq	%rax, -24(%rsp)
+	xorl	%r9d, %r9d
+	jmp	.LBB42_4
+	.p2align	4
+.LBB42_2:
+	testl	%eax, %eax
+	jne	.LBB42_60
+.LBB42_3:
+	addq	%r8, %r9
+	incq	%rbp
+	cmpq	-24(%rsp), %rbp
+	je	.LBB42_58
+.LBB42_4:
+	movq	%r9, %r8
+	movl	(%rdi), %eax
+	cmpq	%rax, %rbp
+	jae	.LBB42_7
+	cmpq	%rbp, 184(%rdi)
+	jbe	.LBB42_9
+	movq	176(%rdi), %rax
+	movl	(%rax,%rbp,8), %r11d
+	movq	-16(%rsp), %r9
+	subq	%r8, %r9
+	jne	.LBB42_10
+	jmp	.LBB42_56
+	.p2align	4
+.LBB42_7:
+	jne	.LBB42_9
+	movl	104(%rdi), %r11d
+	movq	-16(%rsp), %r9
+	subq	%r8, %r9
+	jne	.LBB42_10
+.LBB42_56:
+	xorl	%ebx, %ebx
+	cmpq	%r9, %rbx
+	movq	%rbx, %r9
+	jb	.LBB42_3
+	jmp	.LBB42_44
+	.p2align	4
+.LBB42_9:
+	xorl	%r11d, %r11d
+	movq	-16(%rsp), %r9
+	subq	%r8, %r9
+	je	.LBB42_56
+.LBB42_10:
+	movq	%r8, -64(%rsp)
+	imulq	$88, %r8, %r14
+	addq	-32(%rsp), %r14
+	xorl	%ebx, %ebx
+	movq	%rbp, -80(%rsp)
+	movq	%r9, -8(%rsp)
+	jmp	.LBB42_12
+	.p2align	4
+.LBB42_11:
+	incq	%rbx
+	addq	$88, %r14
+	movl	%eax, %r11d
+	movq	-8(%rsp), %r9
+	cmpq	%rbx, %r9
+	je	.LBB42_47
+.LBB42_12:
+	testl	%r11d, %r11d
+	je	.LBB42_43
+	movq	184(%rdi), %rcx
+	movl	%r11d, %eax
+	xorl	%r15d, %r15d
+	movl	$0, %esi
+	cmpq	%rax, %rcx
+	jbe	.LBB42_14
+	movq	176(%rdi), %rdx
+	movl	(%rdx,%rax,8), %esi
+	leal	2(%r11), %eax
+	cmpq	%rax, %rcx
+	ja	.LBB42_23
+.LBB42_15:
+	leal	4(%r11), %eax
+	xorl	%r12d, %r12d
+	cmpq	%rax, %rcx
+	jbe	.LBB42_16
+.LBB42_24:
+	movq	176(%rdi), %rdx
+	movl	(%rdx,%rax,8), %r12d
+	leal	5(%r11), %eax
+	cmpq	%rax, %rcx
+	ja	.LBB42_17
+.LBB42_25:
+	movq	$0, -40(%rsp)
+	leal	6(%r11), %eax
+	cmpq	%rax, %rcx
+	jbe	.LBB42_18
+.LBB42_26:
+	movq	176(%rdi), %rdx
+	movq	(%rdx,%rax,8), %rax
+	movq	%rax, -48(%rsp)
+	leal	7(%r11), %eax
+	cmpq	%rax, %rcx
+	jbe	.LBB42_19
+.LBB42_27:
+	movq	176(%rdi), %rdx
+	movq	(%rdx,%rax,8), %rax
+	movq	%rax, -56(%rsp)
+	movl	%esi, %edx
+	leal	8(%r11), %eax
+	cmpq	%rax, %rcx
+	jbe	.LBB42_20
+.LBB42_28:
+	movq	176(%rdi), %rsi
+	movq	(%rsi,%rax,8), %rsi
+	leal	9(%r11), %r8d
+	xorl	%eax, %eax
+	cmpq	%r8, %rcx
+	jbe	.LBB42_21
+.LBB42_29:
+	movq	176(%rdi), %r9
+	movq	(%r9,%r8,8), %r8
+	jmp	.LBB42_30
+	.p2align	4
+.LBB42_14:
+	leal	2(%r11), %eax
+	cmpq	%rax, %rcx
+	jbe	.LBB42_15
+.LBB42_23:
+	movq	176(%rdi), %rdx
+	movl	(%rdx,%rax,8), %r15d
+	leal	4(%r11), %eax
+	xorl	%r12d, %r12d
+	cmpq	%rax, %rcx
+	ja	.LBB42_24
+.LBB42_16:
+	leal	5(%r11), %eax
+	cmpq	%rax, %rcx
+	jbe	.LBB42_25
+.LBB42_17:
+	movq	176(%rdi), %rdx
+	movq	(%rdx,%rax,8), %rax
+	movq	%rax, -40(%rsp)
+	leal	6(%r11), %eax
+	cmpq	%rax, %rcx
+	ja	.LBB42_26
+.LBB42_18:
+	movq	$0, -48(%rsp)
+	leal	7(%r11), %eax
+	cmpq	%rax, %rcx
+	ja	.LBB42_27
+.LBB42_19:
+	movq	$0, -56(%rsp)
+	movl	%esi, %edx
+	leal	8(%r11), %eax
+	cmpq	%rax, %rcx
+	ja	.LBB42_28
+.LBB42_20:
+	xorl	%esi, %esi
+	leal	9(%r11), %r8d
+	xorl	%eax, %eax
+	cmpq	%r8, %rcx
+	ja	.LBB42_29
+.LBB42_21:
+	xorl	%r8d, %r8d
+.LBB42_30:
+	movl	%r15d, %r9d
+	shrl	$3, %r9d
+	movl	%r15d, %ebp
+	andl	$7, %ebp
+	addl	$7, %ebp
+	shrl	$3, %ebp
+	leal	(%r9,%r11), %r10d
+	addl	$12, %r10d
+	addl	%ebp, %r10d
+	cmpq	%r10, %rcx
+	jbe	.LBB42_36
+	movq	176(%rdi), %r9
+	movq	(%r9,%r10,8), %rbp
+	movq	%rbp, %r13
+	andq	$7, %r13
+	je	.LBB42_41
+	cmpl	$1, %r13d
+	je	.LBB42_40
+	cmpl	$2, %r13d
+	jne	.LBB42_42
+	incl	%r10d
+	movl	$2, %eax
+	cmpq	%r10, %rcx
+	jbe	.LBB42_36
+	movq	(%r9,%r10,8), %r13
+	xorl	%r10d, %r10d
+	jmp	.LBB42_37
+	.p2align	4
+.LBB42_36:
+	xorl	%r10d, %r10d
+	xorl	%r13d, %r13d
+.LBB42_37:
+	xorl	%ecx, %ecx
+.LBB42_38:
+	movq	-80(%rsp), %rbp
+	leal	12(%r11), %r9d
+	movl	%r11d, (%r14)
+	movl	%ebp, 4(%r14)
+	movl	%r9d, 8(%r14)
+	movl	%r15d, 12(%r14)
+	movl	%r12d, 16(%r14)
+	movl	%edx, 20(%r14)
+	movq	-40(%rsp), %rdx
+	movq	%rdx, 24(%r14)
+	movq	-48(%rsp), %rdx
+	movq	%rdx, 32(%r14)
+	movq	-56(%rsp), %rdx
+	movq	%rdx, 40(%r14)
+	movq	%rsi, 48(%r14)
+	movq	%r8, 56(%r14)
+	movl	%eax, 64(%r14)
+	movl	%r10d, 68(%r14)
+	movq	%r13, 72(%r14)
+	movq	%rcx, 80(%r14)
+	incl	%r11d
+	xorl	%eax, %eax
+	cmpq	%r11, 184(%rdi)
+	jbe	.LBB42_11
+	movq	176(%rdi), %rax
+	movl	(%rax,%r11,8), %eax
+	jmp	.LBB42_11
+.LBB42_40:
+	xorl	%r13d, %r13d
+	cmpq	$1, %rbp
+	setne	%r13b
+	xorl	%r10d, %r10d
+	movl	$1, %eax
+	jmp	.LBB42_37
+.LBB42_41:
+	xorl	%r10d, %r10d
+	movq	%r13, %rcx
+	jmp	.LBB42_38
+.LBB42_42:
+	shrq	$3, %rbp
+	incl	%r10d
+	xorl	%r9d, %r9d
+	xorl	%eax, %eax
+	cmpq	$3, %r13
+	movl	%ebp, %ecx
+	setne	%al
+	cmovneq	%r9, %rcx
+	addl	$3, %eax
+	cmpl	$3, %r13d
+	cmovnel	%r9d, %r10d
+	xorl	%r13d, %r13d
+	jmp	.LBB42_38
+	.p2align	4
+.LBB42_43:
+	movq	-64(%rsp), %r8
+	cmpq	%r9, %rbx
+	movq	%rbx, %r9
+	jb	.LBB42_3
+.LBB42_44:
+	movl	(%rdi), %eax
+	cmpq	%rax, %rbp
+	jae	.LBB42_48
+.LBB42_45:
+	cmpq	%rbp, 184(%rdi)
+	jbe	.LBB42_3
+	movq	176(%rdi), %rax
+	movl	(%rax,%rbp,8), %eax
+	testq	%r9, %r9
+	jne	.LBB42_50
+	jmp	.LBB42_2
+	.p2align	4
+.LBB42_47:
+	movq	-64(%rsp), %r8
+	movl	(%rdi), %eax
+	cmpq	%rax, %rbp
+	jb	.LBB42_45
+.LBB42_48:
+	jne	.LBB42_3
+	movl	104(%rdi), %eax
+	testq	%r9, %r9
+	je	.LBB42_2
+.LBB42_50:
+	testl	%eax, %eax
+	je	.LBB42_2
+	movq	184(%rdi), %rcx
+	movl	$1, %edx
+	.p2align	4
+.LBB42_52:
+	incl	%eax
+	cmpq	%rax, %rcx
+	jbe	.LBB42_3
+	movq	176(%rdi), %rsi
+	movl	(%rsi,%rax,8), %eax
+	cmpq	%r9, %rdx
+	jae	.LBB42_2
+	incq	%rdx
+	testl	%eax, %eax
+	jne	.LBB42_52
+	jmp	.LBB42_2
+.LBB42_57:
+	xorl	%r8d, %r8d
+	jmp	.LBB42_59
+.LBB42_58:
+	movq	%r9, %r8
+	movl	-68(%rsp), %edx
+.LBB42_59:
+	movl	%edx, %eax
+	movq	%r8, %rdx
+	popq	%rbx
+	popq	%r12
+	popq	%r13
+	popq	%r14
+	popq	%r15
+	popq	%rbp
+	retq
+.LBB42_60:
+	movl	%ebp, %edx
+	jmp	.LBB42_59
+.Lfunc_end42:
+	.size	cache_list_slots_unchecked, .Lfunc_end42-cache_list_slots_unchecked
+
 	.section	.text.cache_get_view_unchecked,"ax",@progbits
 	.globl	cache_get_view_unchecked
 	.p2align	4
@@ -9328,8 +9660,8 @@ cache_get_view_unchecked:
 	shlq	$32, %rax
 	orq	%rcx, %rax
 	retq
-.Lfunc_end42:
-	.size	cache_get_view_unchecked, .Lfunc_end42-cache_get_view_unchecked
+.Lfunc_end43:
+	.size	cache_get_view_unchecked, .Lfunc_end43-cache_get_view_unchecked
 
 	.section	.text.cache_find_shared_unchecked,"ax",@progbits
 	.globl	cache_find_shared_unchecked
@@ -9350,55 +9682,55 @@ cache_find_shared_unchecked:
 	sete	%bpl
 	movq	%r9, %rax
 	shrq	$32, %rax
-	je	.LBB43_2
+	je	.LBB44_2
 	xorl	%ecx, %ecx
 	movl	$10, %esi
-	jmp	.LBB43_12
-.LBB43_2:
+	jmp	.LBB44_12
+.LBB44_2:
 	movq	%rcx, %r10
 	movq	56(%rsp), %rax
 	movl	(%rsi), %ecx
 	movl	4(%rsi), %r11d
 	cmpq	$4096, %rcx
-	je	.LBB43_8
+	je	.LBB44_8
 	testl	%ecx, %ecx
-	je	.LBB43_7
+	je	.LBB44_7
 	movq	%rdx, %rsi
 	movq	%rax, %rdx
 	shrq	$32, %rdx
-	je	.LBB43_5
+	je	.LBB44_5
 	xorl	%edx, %edx
 	divq	%rcx
 	movq	%rdx, %rax
 	movq	%rsi, %rdx
 	movl	$5, %esi
 	cmpq	%rax, %r10
-	ja	.LBB43_11
-	jmp	.LBB43_10
-.LBB43_8:
+	ja	.LBB44_11
+	jmp	.LBB44_10
+.LBB44_8:
 	andl	$4095, %eax
 	movl	$5, %esi
 	cmpq	%rax, %r10
-	ja	.LBB43_11
-	jmp	.LBB43_10
-.LBB43_5:
+	ja	.LBB44_11
+	jmp	.LBB44_10
+.LBB44_5:
 	xorl	%edx, %edx
 	divl	%ecx
 	movl	%edx, %eax
 	movq	%rsi, %rdx
 	movl	$5, %esi
 	cmpq	%rax, %r10
-	jbe	.LBB43_10
-.LBB43_11:
+	jbe	.LBB44_10
+.LBB44_11:
 	xorl	%ecx, %ecx
 	testl	%r11d, %r11d
-	je	.LBB43_12
+	je	.LBB44_12
 	movb	%r15b, %bl
 	shll	$12, %ebx
 	addq	%rbx, %rdx
 	movl	(%rdx,%rax,8), %eax
 	testl	%eax, %eax
-	je	.LBB43_12
+	je	.LBB44_12
 	movl	%r9d, %ecx
 	shrl	$3, %ecx
 	movl	%r9d, %ebx
@@ -9408,231 +9740,231 @@ cache_find_shared_unchecked:
 	addl	%ecx, %ebx
 	movl	%ebx, %ecx
 	movq	%rcx, -8(%rsp)
-	je	.LBB43_15
+	je	.LBB44_15
 	movb	%bpl, %r14b
 	shll	$12, %r14d
 	addq	%r14, %r8
 	cmpq	$8, %r9
-	jae	.LBB43_24
+	jae	.LBB44_24
 	movq	-8(%rsp), %rcx
 	leaq	(,%rcx,8), %r14
 	xorl	%ebp, %ebp
 	movq	%r14, -16(%rsp)
-.LBB43_29:
+.LBB44_29:
 	leal	2(%rax), %ecx
 	cmpq	%rcx, %r10
-	jbe	.LBB43_30
+	jbe	.LBB44_30
 	movq	(%rdx,%rcx,8), %rcx
 	cmpq	%r9, %rcx
-	je	.LBB43_33
-	jmp	.LBB43_54
-.LBB43_30:
+	je	.LBB44_33
+	jmp	.LBB44_54
+.LBB44_30:
 	xorl	%ecx, %ecx
 	cmpq	%r9, %rcx
-	jne	.LBB43_54
-.LBB43_33:
+	jne	.LBB44_54
+.LBB44_33:
 	leal	12(%rax), %ecx
 	xorl	%r15d, %r15d
 	movq	%r8, %r12
 	.p2align	4
-.LBB43_34:
+.LBB44_34:
 	movl	%ecx, %ecx
 	cmpq	%rcx, %r10
-	jbe	.LBB43_35
+	jbe	.LBB44_35
 	movq	(%rdx,%rcx,8), %r13
 	leaq	(%r9,%r15), %rbx
 	cmpq	$7, %rbx
-	ja	.LBB43_52
-.LBB43_38:
+	ja	.LBB44_52
+.LBB44_38:
 	cmpq	$4, %rbx
-	jae	.LBB43_39
+	jae	.LBB44_39
 	cmpq	$1, %rbx
-	je	.LBB43_85
+	je	.LBB44_85
 	testq	%rbx, %rbx
-	je	.LBB43_53
+	je	.LBB44_53
 	leaq	(%r9,%r15), %r14
 	addq	$-2, %r14
 	movzwl	(%r12), %ebx
 	testq	%r14, %r14
-	je	.LBB43_50
+	je	.LBB44_50
 	movzbl	2(%r12), %r14d
 	shll	$16, %r14d
-	jmp	.LBB43_46
+	jmp	.LBB44_46
 	.p2align	4
-.LBB43_35:
+.LBB44_35:
 	xorl	%r13d, %r13d
 	leaq	(%r9,%r15), %rbx
 	cmpq	$7, %rbx
-	jbe	.LBB43_38
-.LBB43_52:
+	jbe	.LBB44_38
+.LBB44_52:
 	movq	(%r12), %rbx
 	cmpq	%rbx, %r13
-	je	.LBB43_57
-	jmp	.LBB43_54
+	je	.LBB44_57
+	jmp	.LBB44_54
 	.p2align	4
-.LBB43_39:
-	je	.LBB43_40
+.LBB44_39:
+	je	.LBB44_40
 	cmpq	$5, %rbx
-	jne	.LBB43_43
+	jne	.LBB44_43
 	movzbl	4(%r12), %ebx
-	jmp	.LBB43_45
-.LBB43_85:
+	jmp	.LBB44_45
+.LBB44_85:
 	movzbl	(%r12), %ebx
 	cmpq	%rbx, %r13
-	je	.LBB43_57
-	jmp	.LBB43_54
-.LBB43_40:
+	je	.LBB44_57
+	jmp	.LBB44_54
+.LBB44_40:
 	xorl	%ebx, %ebx
-	jmp	.LBB43_45
-.LBB43_43:
+	jmp	.LBB44_45
+.LBB44_43:
 	leaq	(%r9,%r15), %r14
 	addq	$-6, %r14
 	movzwl	4(%r12), %ebx
 	testq	%r14, %r14
-	je	.LBB43_45
+	je	.LBB44_45
 	movzbl	6(%r12), %r14d
 	shll	$16, %r14d
 	orq	%r14, %rbx
-.LBB43_45:
+.LBB44_45:
 	movl	(%r12), %r14d
 	shlq	$32, %rbx
-.LBB43_46:
+.LBB44_46:
 	orq	%r14, %rbx
 	movq	-16(%rsp), %r14
-.LBB43_53:
+.LBB44_53:
 	cmpq	%rbx, %r13
-	jne	.LBB43_54
-.LBB43_57:
+	jne	.LBB44_54
+.LBB44_57:
 	addq	$-8, %r15
 	addq	$8, %r12
 	incl	%ecx
 	movq	%r14, %rbx
 	addq	%r15, %rbx
-	jne	.LBB43_34
-	jmp	.LBB43_58
-.LBB43_50:
+	jne	.LBB44_34
+	jmp	.LBB44_58
+.LBB44_50:
 	movq	-16(%rsp), %r14
 	cmpq	%rbx, %r13
-	je	.LBB43_57
-.LBB43_54:
+	je	.LBB44_57
+.LBB44_54:
 	incl	%eax
 	cmpq	%rax, %r10
-	jbe	.LBB43_10
+	jbe	.LBB44_10
 	incl	%ebp
 	xorl	%ecx, %ecx
 	cmpl	%r11d, %ebp
-	jae	.LBB43_12
+	jae	.LBB44_12
 	movl	(%rdx,%rax,8), %eax
 	testl	%eax, %eax
-	jne	.LBB43_29
-	jmp	.LBB43_12
-.LBB43_15:
+	jne	.LBB44_29
+	jmp	.LBB44_12
+.LBB44_15:
 	movl	$1, %r8d
 	.p2align	4
-.LBB43_16:
+.LBB44_16:
 	leal	2(%rax), %ecx
 	cmpq	%rcx, %r10
-	jbe	.LBB43_17
+	jbe	.LBB44_17
 	movq	(%rdx,%rcx,8), %rcx
-	jmp	.LBB43_19
+	jmp	.LBB44_19
 	.p2align	4
-.LBB43_17:
+.LBB44_17:
 	xorl	%ecx, %ecx
-.LBB43_19:
+.LBB44_19:
 	cmpq	%r9, %rcx
-	je	.LBB43_58
+	je	.LBB44_58
 	incl	%eax
 	cmpq	%rax, %r10
-	jbe	.LBB43_10
+	jbe	.LBB44_10
 	xorl	%ecx, %ecx
 	cmpl	%r11d, %r8d
-	jae	.LBB43_12
+	jae	.LBB44_12
 	movl	(%rdx,%rax,8), %eax
 	incl	%r8d
 	testl	%eax, %eax
-	jne	.LBB43_16
-	jmp	.LBB43_12
-.LBB43_24:
+	jne	.LBB44_16
+	jmp	.LBB44_12
+.LBB44_24:
 	leaq	(,%r9,8), %rcx
 	movl	$64, %ebx
 	subq	%rcx, %rbx
 	movq	%rbx, -16(%rsp)
 	xorl	%ebp, %ebp
 	.p2align	4
-.LBB43_25:
+.LBB44_25:
 	leal	2(%rax), %ecx
 	cmpq	%rcx, %r10
-	jbe	.LBB43_73
+	jbe	.LBB44_73
 	cmpq	%r9, (%rdx,%rcx,8)
-	jne	.LBB43_73
+	jne	.LBB44_73
 	leal	12(%rax), %ebx
 	xorl	%r15d, %r15d
 	movq	%r9, %r12
 	movq	-16(%rsp), %rcx
 	.p2align	4
-.LBB43_66:
+.LBB44_66:
 	leal	(%rbx,%r15), %r14d
 	cmpq	%r14, %r10
-	jbe	.LBB43_67
+	jbe	.LBB44_67
 	movq	(%rdx,%r14,8), %r13
 	cmpq	$8, %r12
-	jae	.LBB43_70
-.LBB43_71:
+	jae	.LBB44_70
+.LBB44_71:
 	movq	-8(%r8,%r9), %r14
 	shrq	%cl, %r14
-	jmp	.LBB43_72
+	jmp	.LBB44_72
 	.p2align	4
-.LBB43_67:
+.LBB44_67:
 	xorl	%r13d, %r13d
 	cmpq	$8, %r12
-	jb	.LBB43_71
-.LBB43_70:
+	jb	.LBB44_71
+.LBB44_70:
 	movq	(%r8,%r15,8), %r14
-.LBB43_72:
+.LBB44_72:
 	cmpq	%r14, %r13
-	jne	.LBB43_73
+	jne	.LBB44_73
 	incq	%r15
 	addq	$64, %rcx
 	addq	$-8, %r12
 	cmpq	%r15, -8(%rsp)
-	jne	.LBB43_66
-	jmp	.LBB43_58
-.LBB43_73:
+	jne	.LBB44_66
+	jmp	.LBB44_58
+.LBB44_73:
 	incl	%eax
 	cmpq	%rax, %r10
-	jbe	.LBB43_10
+	jbe	.LBB44_10
 	incl	%ebp
 	xorl	%ecx, %ecx
 	cmpl	%r11d, %ebp
-	jae	.LBB43_12
+	jae	.LBB44_12
 	movl	(%rdx,%rax,8), %eax
 	testl	%eax, %eax
-	jne	.LBB43_25
-	jmp	.LBB43_12
-.LBB43_58:
+	jne	.LBB44_25
+	jmp	.LBB44_12
+.LBB44_58:
 	leal	4(%rax), %ecx
 	cmpq	%rcx, %r10
-	jbe	.LBB43_63
+	jbe	.LBB44_63
 	movq	(%rdx,%rcx,8), %rcx
 	testq	%rcx, %rcx
-	je	.LBB43_63
+	je	.LBB44_63
 	movq	64(%rsp), %r8
 	leal	5(%rax), %r9d
 	cmpq	%r9, %r10
-	jbe	.LBB43_62
+	jbe	.LBB44_62
 	addq	(%rdx,%r9,8), %rcx
 	movq	$-1, %r9
 	cmovbq	%r9, %rcx
-.LBB43_62:
+.LBB44_62:
 	cmpq	%r8, %rcx
-	jae	.LBB43_63
-.LBB43_10:
+	jae	.LBB44_63
+.LBB44_10:
 	xorl	%ecx, %ecx
-.LBB43_12:
+.LBB44_12:
 	xorl	%r8d, %r8d
 	xorl	%edx, %edx
 	xorl	%eax, %eax
-.LBB43_84:
+.LBB44_84:
 	movl	%esi, (%rdi)
 	movl	%ecx, 4(%rdi)
 	movq	%r8, 8(%rdi)
@@ -9647,47 +9979,47 @@ cache_find_shared_unchecked:
 	popq	%r15
 	popq	%rbp
 	retq
-.LBB43_63:
+.LBB44_63:
 	movq	-8(%rsp), %rcx
 	addl	%eax, %ecx
 	addl	$12, %ecx
 	xorl	%esi, %esi
 	cmpq	%rcx, %r10
-	jbe	.LBB43_64
+	jbe	.LBB44_64
 	movq	(%rdx,%rcx,8), %r9
 	movq	%r9, %r8
 	andq	$7, %r8
-	je	.LBB43_77
+	je	.LBB44_77
 	cmpl	$1, %r8d
-	je	.LBB43_82
+	je	.LBB44_82
 	cmpl	$2, %r8d
-	jne	.LBB43_83
+	jne	.LBB44_83
 	incl	%ecx
 	movl	$2, %esi
 	cmpq	%rcx, %r10
-	jbe	.LBB43_64
+	jbe	.LBB44_64
 	movq	(%rdx,%rcx,8), %r8
 	xorl	%ecx, %ecx
 	xorl	%edx, %edx
-	jmp	.LBB43_84
-.LBB43_64:
+	jmp	.LBB44_84
+.LBB44_64:
 	xorl	%ecx, %ecx
 	xorl	%r8d, %r8d
 	xorl	%edx, %edx
-	jmp	.LBB43_84
-.LBB43_82:
+	jmp	.LBB44_84
+.LBB44_82:
 	xorl	%r8d, %r8d
 	cmpq	$1, %r9
 	setne	%r8b
 	xorl	%ecx, %ecx
 	movl	$1, %esi
 	xorl	%edx, %edx
-	jmp	.LBB43_84
-.LBB43_77:
+	jmp	.LBB44_84
+.LBB44_77:
 	xorl	%ecx, %ecx
 	movq	%r8, %rdx
-	jmp	.LBB43_84
-.LBB43_83:
+	jmp	.LBB44_84
+.LBB44_83:
 	shrq	$3, %r9
 	incl	%ecx
 	xorl	%r10d, %r10d
@@ -9700,11 +10032,11 @@ cache_find_shared_unchecked:
 	cmpl	$3, %r8d
 	cmovnel	%r10d, %ecx
 	xorl	%r8d, %r8d
-	jmp	.LBB43_84
-.LBB43_7:
+	jmp	.LBB44_84
+.LBB44_7:
 	ud2
-.Lfunc_end43:
-	.size	cache_find_shared_unchecked, .Lfunc_end43-cache_find_shared_unchecked
+.Lfunc_end44:
+	.size	cache_find_shared_unchecked, .Lfunc_end44-cache_find_shared_unchecked
 
 	.ident	"rattle logic=dac8208d650f15bf3e2dc313a14fa4c783a3acf887bdfab66e1714b038d9e11b"
 	.section	".note.GNU-stack","",@progbits
