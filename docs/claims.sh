@@ -197,6 +197,19 @@ def check(tables, edits, source):
 
 # ---- the lists of rows
 
+def ledger():
+    """How many edits the ledger has as tried on this text, and how many it notes as still to be tried."""
+    with open("checks/edits.txt", encoding="utf-8") as file:
+        lines = [line for line in file.read().split("\n") if line and line[0] != "#"]
+    tried = [line for line in lines if re.match(r"\w+/\w+ refused", line)]
+    named = [line for line in tried if "only since a proof names" in line]
+    owed = [re.match(r"(\w+) .* edits=(\d+) untried$", line) for line in lines if line.endswith(" untried")]
+    said = f"Tried on the text as it is, and refused: {len(tried)} (`checks/edits.txt`), of which {len(named)} only because a proof names what the edit removes."
+    if owed:
+        said += f" Still to be tried: {sum(int(it[2]) for it in owed)}, of {len(owed)} crates, which `checks/edits.sh --check` lists."
+    return said
+
+
 def names(clauses, edits, home):
     """The edits that name one of these clauses, each once, without the crate if it is the row's."""
     found = [(crate, name) for each in clauses for key in each.keys for crate, name, _ in edits.get(key, [])]
@@ -273,6 +286,7 @@ def coverage(tables, edits, waiting):
 - Rows: {len(rows)}. With an edit of their own {own}, with one that is alike alone {alike}, with none {len(none)}.
 - Rows without a test: {len(untested)}, of which {bare} have no edit either.
 - Edits: {many}. Of these {len(of_statements())} change a clause of a law, a definition or a constant, and no body.
+- {ledger()}
 - Functions that may wait for a lock or a thread, and so have the bound `Wait`: {wait}. All others return.
 {waits}
 """
