@@ -262,7 +262,7 @@ static inline void cache_find_shared(const struct cache_view *view, const uint64
                                      uint64_t hash, uint64_t t, struct cache_found *found);
 
 /* Counts shared look-ups of the second t: a hit and a use for each of these rows, which are still
- * there, and so many misses. False, and nothing is counted, if a pointer is null. */
+ * in the cache, and `misses` misses. False, and nothing is counted, if a pointer is null. */
 static inline bool cache_count(uint8_t *at, const uint32_t *rows, size_t count, uint64_t misses,
                                uint64_t t);
 

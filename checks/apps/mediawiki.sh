@@ -35,8 +35,8 @@ unpack() {
         (cd "$scratch/packages" && apt-get -q download mediawiki mediawiki-classes >log 2>&1) ||
             { cat "$scratch/packages/log" >&2; exit 1; }
     fi
-    for file in "$scratch"/packages/*.deb; do dpkg-deb -x "$file" "$scratch/packages/root"; done
-    wiki=$scratch/packages/root/usr/share/mediawiki
+    for file in "$scratch"/packages/*.deb; do dpkg-deb -x "$file" "$scratch/packages/unpacked"; done
+    wiki=$scratch/packages/unpacked/usr/share/mediawiki
     # These are links to folders of the system.
     (cd "$wiki" && rm -f LocalSettings.php config extensions images && cp -r extensions-core extensions && mkdir images config)
     for file in "$(php-config --ini-dir)"/*.ini; do

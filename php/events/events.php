@@ -59,7 +59,7 @@ function events_of(string $program, Recorded $record, bool &$is_whole): \Generat
     $is_whole = proc_close($started) === 0;
 }
 
-/** A string of so many letters, if the record has its length alone. */
+/** A string of N letters, if the record has only its length N. */
 function letters(string $text): string
 {
     return preg_match('/\Ax:([0-9]+);/', $text, $found) === 1

@@ -119,7 +119,7 @@ final class Extent
 
 /**
  * The stretches. Behind one that is full, the next one begins when the cache is empty again; what is between is in none.
- * One that has so many bytes already ends when the cache is emptied, so few are ever full.
+ * One that is large enough ends when the cache is emptied, so few are ever full.
  *
  * @param iterable<Event> $events
  * @return \Generator<int, Stretch>

@@ -392,7 +392,7 @@ void apcu_info_print(void)
 		php_info_print_table_row(2, "Serialization Support", ZSTR_VAL(names));
 		zend_string_release(names);
 		snprintf(remade, sizeof remade, ZEND_ULONG_FMT, (zend_ulong) apcu_shm->remade);
-		php_info_print_table_row(2, "Made Anew After A Kill", remade);
+		php_info_print_table_row(2, "Cache Recreated After Crash", remade);
 		print_kept();
 	} else {
 		php_info_print_table_row(2, "Serialization Support", "Disabled");

@@ -31,7 +31,7 @@ function drops(): string
 {
     ob_start();
     (new ReflectionExtension('apcu'))->info();
-    preg_match('/Made Anew After A Kill(?:<[^>]*>| |=>)*(\d+)/', ob_get_clean(), $found);
+    preg_match('/Cache Recreated After Crash(?:<[^>]*>| |=>)*(\d+)/', ob_get_clean(), $found);
     return ($found[1] ?? 0) . ' ' . apcu_cache_info(true)['expunges'];
 }
 

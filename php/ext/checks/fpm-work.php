@@ -9,7 +9,7 @@ require __DIR__ . '/work.php';
 
 header('Content-Type: text/plain');
 if (isset($_GET['anew'])) {
-    exit('ok ' . (times_made_anew() ?? 'none'));
+    exit('ok ' . (times_remade() ?? 'none'));
 }
 mt_srand();
 for ($i = 0; $i < 500; $i++) {

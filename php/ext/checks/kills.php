@@ -77,7 +77,7 @@ function asked($stream): int
         $stored = apcu_store('alive', $number);
         $found = apcu_fetch('alive', $is_there);
         // Another process may have cleared the cache, and a kill may have emptied it.
-        $answer = $stored && ($found === $number || !$is_there) ? times_made_anew() ?? 'none' : 'wrong';
+        $answer = $stored && ($found === $number || !$is_there) ? times_remade() ?? 'none' : 'wrong';
         fwrite($stream, "$answer\n");
     }
     return 0;
@@ -122,7 +122,7 @@ $all['asked'] = start('asked', $all);
 for ($i = 0; $i < 4; $i++) {
     $all[$i] = start($work, $all);
 }
-[$wrong, $anew, $begun] = [0, 'none', microtime(true)];
+[$wrong, $remakes, $begun] = [0, 'none', microtime(true)];
 for ($kills = 1; $kills <= $wanted; $kills++) {
     usleep(mt_rand(500, 15000));
     $at = mt_rand(0, 3);
@@ -145,7 +145,7 @@ for ($kills = 1; $kills <= $wanted; $kills++) {
         $wrong++;
         echo "after $kills kills: a wrong answer\n";
     } else {
-        $anew = $answer;
+        $remakes = $answer;
     }
     $all[$at] = start($work, $all);
 }
@@ -168,8 +168,8 @@ foreach ($all as $name => $one) {
         echo "a process ended with another status\n";
     }
 }
-printf("%d kills, made anew %s times, %d faults, %.1f s\n", $wanted, $anew, max($wrong, 0), $took);
-if ($work === 'reader' && $anew !== '0' && $anew !== 'none') {
+printf("%d kills, recreated %s times, %d faults, %.1f s\n", $wanted, $remakes, max($wrong, 0), $took);
+if ($work === 'reader' && $remakes !== '0' && $remakes !== 'none') {
     echo "a process that was killed while it read emptied the cache\n";
     $wrong++;
 }

@@ -4,7 +4,7 @@
 # shop of bench/record, of a minute of wrk on php-fpm with eight workers, of random calls of some processes, and of
 # processes of which 40 are killed, where no event is missing but of calls that had not returned. Each of ten replies that are
 # changed is found, as are two events whose places are changed, and a call that is left out; a build of the extension that
-# does not count now and then is caught, and one that gives rows that have expired. A damaged record is told. Then a record of
+# does not count now and then is caught, and one that gives rows that have expired. A damaged record is reported. Then a record of
 # ten million events, and what recording costs.
 # Usage: php/ext/checks/record.sh [SO [REPLAY [CHECK..]]]; REPLAY is the program apcu_replay, which capi/ builds. It needs
 # what suites.sh needs, php-fpm, nginx and wrk for the minute, and php-dev for the builds that are wrong. CHECK is calls,

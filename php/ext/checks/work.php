@@ -76,10 +76,10 @@ function work_once(int $keys = 500): ?string
     }
 }
 
-/** How often the cache was made anew after a kill; null where it tells nothing of that. */
-function times_made_anew(): ?int
+/** How often the cache was recreated after a kill; null if phpinfo() does not say. */
+function times_remade(): ?int
 {
     ob_start();
     (new ReflectionExtension('apcu'))->info();
-    return preg_match('/Made Anew After A Kill(?:<[^>]*>| |=>)*(\d+)/', ob_get_clean(), $found) ? (int) $found[1] : null;
+    return preg_match('/Cache Recreated After Crash(?:<[^>]*>| |=>)*(\d+)/', ob_get_clean(), $found) ? (int) $found[1] : null;
 }

@@ -33,7 +33,7 @@ for ($kills = 0; $kills < 2000 && apcu_cache_info(true)['remakes'] === 0; $kills
 $remakes = apcu_cache_info(true)['remakes'];
 ob_start();
 phpinfo(INFO_MODULES);
-var_dump($remakes > 0, str_contains(ob_get_clean(), "Made Anew After A Kill => $remakes\n"));
+var_dump($remakes > 0, str_contains(ob_get_clean(), "Cache Recreated After Crash => $remakes\n"));
 
 // A process that is stopped with the lock keeps others waiting.
 $id = pcntl_fork();
