@@ -155,9 +155,9 @@ pub unsafe extern "C" fn cache_list_rows_unchecked(
     (&mut *at.cast::<Cache>()).list_rows(slot, skip, std::slice::from_raw_parts_mut(out, room))
 }
 
-/// Writes the rows of the lists from `from` up to `to` of the cache at `at`, list after list, to the
-/// `room` places at `out`, until all rows of one do not fit. Returns the first list that it did not
-/// write, which is `to` if all fit, and the number of rows of those before it. What the places
+/// Writes the rows of the lists from `from` up to `to` of the cache at `at`, list after list, to
+/// the `room` places at `out`, until all rows of one do not fit. Returns the first list that it did
+/// not write, which is `to` if all fit, and the number of rows of those before it. What the places
 /// behind these rows have is arbitrary. Nothing changes.
 #[unsafe(no_mangle)]
 pub unsafe extern "C" fn cache_list_slots_unchecked(

@@ -123,8 +123,8 @@ impl Cache {
         out.len() as u64
     }
 
-    /// Fills the slice with the rows of the lists from `from` up to `to`, list after list, until all
-    /// rows of one do not fit. What is behind the rows of the lists before it is arbitrary.
+    /// Fills the slice with the rows of the lists from `from` up to `to`, list after list, until
+    /// all rows of one do not fit. What is behind the rows of the lists before it is arbitrary.
     pub(crate) fn list_slots(&mut self, from: u32, to: u32, out: &mut [ToldRow]) -> Listing
         requires stand { StandsForCache self.old }
         ensures same { StandsUnchanged self.old self.new }
