@@ -6,22 +6,17 @@
 # - a million calls from a script to its output, beside PHP's loop;
 # - fetches that are printed whole; their floor is a program in C that holds its output likewise (floor/fetch.c);
 # - stores of texts that change, without what as many lines take that are read and find the row; they have no goal,
-#   since each changed word is one locked instruction;
-# - stores of new rows where four fifths of 32 MB are taken, over words in memory and without a lock on our side; what
-#   one in 10,000 passes is less the longest turn of an empty loop in its round, which is the host's (floor/turns.c);
-# - a limited cache_info, and key_info, over words in memory and without a lock too.
-# generate/run.sh, play/run.sh and cache/run.sh, which have these parts in common with this script, say how each figure
-# is measured. Each time is the least of three rounds, in each of which ours, PHP's and the floor are measured in turn;
-# a round is kept only where the machine is quiet before and after it (quiet.sh).
-# Usage: bench/goals.sh PROGRAM BENCH, where PROGRAM is the built apcu_run and BENCH the built apcu_bench; it needs php
-# with apcu and pcntl, and cc. BEFORE=PROGRAM and BEFORE_BENCH=BENCH in the environment are measured in turn with them,
-# as a column, and DIVIDE=N makes so many times fewer calls, which tries the script alone. It takes a few minutes, and
-# up to five more where it waits for a quiet machine.
+#   since each changed word is one locked instruction.
+# generate/run.sh and play/run.sh, which have these parts in common with this script, say how each figure is measured.
+# Each time is the least of three rounds, in each of which ours, PHP's and the floor are measured in turn; a round is
+# kept only if the machine is quiet before and after it (quiet.sh).
+# Usage: bench/goals.sh PROGRAM, the built apcu_run; it needs php with apcu and pcntl, and cc. BEFORE=PROGRAM in the
+# environment is an earlier program, which is measured in turn with it, as a column, and DIVIDE=N makes N times fewer
+# calls, which tries the script alone. It takes a few minutes, and up to five more if it waits for a quiet machine.
 set -eu -o pipefail
 here=$(cd "$(dirname "${BASH_SOURCE[0]}")" && pwd)
-[ $# = 2 ] || { echo "usage: $0 PROGRAM BENCH" >&2; exit 1; }
+[ $# = 1 ] || { echo "usage: $0 PROGRAM" >&2; exit 1; }
 program=$1
-bench=$2
 divide=${DIVIDE:-1}
 scratch=$(mktemp -d)
 trap 'rm -rf "$scratch"' EXIT
@@ -30,12 +25,11 @@ export GLIBC_TUNABLES=glibc.malloc.hugetlb=1
 . "$here/quiet.sh"
 . "$here/generate/parts.sh"
 . "$here/play/parts.sh"
-. "$here/cache/parts.sh"
 php_has apcu pcntl || { echo "$0: php with apcu and pcntl is not there" >&2; exit 1; }
-for each in "$program" "$bench" ${BEFORE:+"$BEFORE"} ${BEFORE_BENCH:+"$BEFORE_BENCH"}; do
+for each in "$program" ${BEFORE:+"$BEFORE"}; do
     [ -x "$each" ] || { echo "$0: no program: $each" >&2; exit 1; }
 done
-for each in fetch turns; do cc -std=gnu11 -O3 -Wall -Wextra -Wpedantic "$here/floor/$each.c" -o "$scratch/$each"; done
+cc -std=gnu11 -O3 -Wall -Wextra -Wpedantic "$here/floor/fetch.c" -o "$scratch/fetch"
 
 # So many calls, or the part of them that is wanted.
 part() { echo $((($1 + divide - 1) / divide)); }
@@ -126,49 +120,6 @@ for line in '10 KB 10000 4000' '64 KB 65536 600' '1 MB 1000000 40'; do
     measured 1 in_turn both_took stores_php
     row "a store of $size $unit that changes all words" us 2 none "$(figures 1 "$calls")"
 done
-
-# One round of this work over so many rows or slots, each line with its side before it.
-cache_round() {
-    cache_lines ours "$bench" "$1" "$2"
-    if [ -n "${BEFORE_BENCH:-}" ]; then cache_lines before "$BEFORE_BENCH" "$1" "$2"; fi
-    cache_work_php "$@" | sed 's/^/php /'
-}
-
-# The figures of this name, less those of another one or of none, in so many picoseconds.
-cache_figures() {
-    local side
-    for side in ours before php; do cache_least "$side" "$@" <"$scratch/kept"; done | paste -sd '|'
-}
-
-# One round of stores and of as many turns of an empty loop; `beyond` is p9999 less the longest turn.
-churn_round() {
-    cache_round churn 65536 "$1"
-    echo "loop worst $("$scratch/turns" "$1")"
-}
-with_beyond() {
-    churn_round "$1" | awk '
-        { print }
-        $2 == "p9999" { late[$1] = $3 }
-        $1 == "loop" { longest = $3 }
-        END {
-            for (side in late) {
-                beyond = late[side] - longest
-                printf "%s beyond %.0f\n", side, (beyond > 0 ? beyond : 0)
-            }
-        }'
-}
-
-say 'stores at four fifths'
-keep_rounds "$rounds" 1 with_beyond "$(part 100000)"
-row 'a store at four fifths, one in a hundred' us 2 'ours 3' "$(cache_figures p99 '' 1e6)"
-row 'a store at four fifths, one in a thousand' us 2 none "$(cache_figures p999 '' 1e6)"
-row 'a store at four fifths, one in 10,000, less the longest turn of an empty loop' us 0 'ours 100' "$(cache_figures beyond '' 1e6)"
-
-say 'what is told'
-keep_rounds "$rounds" 1 cache_round info "$(part 10000)"
-row 'cache_info, limited' us 2 'ratio 1' "$(cache_figures cache_info_limited '' 1e6)"
-keep_rounds "$rounds" 1 cache_round calls 1000
-row 'key_info of one of 1,000 rows' ns 0 'ratio 1' "$(cache_figures key_info nothing 1000)"
 
 echo "$(nproc) processors; PHP $(php -r 'echo PHP_VERSION, " with APCu ", phpversion("apcu");')"
 awk -F'|' '

@@ -9,7 +9,7 @@ them, checks/edits.txt.
                           is: --check then reports them and does not fail, until the text changes
 
 An edit turns one function into a wrong one. Its outcome depends on the crate's text and on the statements of the crates
-below it: the ledger has a sum of each. `rt ci` proves what is below, on a copy of the tree, or takes what it has kept.
+below it: the ledger has a sum of each, without comments. --check applies each edit too, without a proof. `rt ci` proves what is below, on a copy of the tree, or takes what it has kept.
 Then a check of the crate as it is begins the edits; where `rt check` left its work in out/, it takes a few seconds.
 Edits of different functions are tried in one check. An edit is refused where the check says so of its own function: one
 that only calls another refused function is tried again without that one. An edit that changes a statement, so that more
@@ -158,6 +158,16 @@ def statements(text):
 # --- sums ---
 
 
+def bare(text, path):
+    """The file without the lines that are comments: a change of these turns no outcome. A line that goes on a string stays."""
+    mark, kept, before = "--" if path.endswith(".antt") else "//", [], ""
+    for line in text.split("\n"):
+        if before.endswith("\\") or not line.lstrip().startswith(mark):
+            kept.append(line)
+        before = line
+    return "\n".join(kept)
+
+
 def sum_of(*words):
     return hashlib.sha256("\0".join(words).encode()).hexdigest()[:16]
 
@@ -167,7 +177,7 @@ def stated(name, known={}):
     if name not in known:
         words = []
         for path, file in texts(name, "src", "specs").items():
-            words += [path, statements(read(file)) if path.endswith(".rt") else read(file)]
+            words += [path, statements(read(file)) if path.endswith(".rt") else bare(read(file), path)]
         known[name] = sum_of(*words)
     return known[name]
 
@@ -175,7 +185,7 @@ def stated(name, known={}):
 def sums(name, crates):
     own = [repr(crates[name])]
     for path, file in texts(name, *PARTS, "more-edits").items():
-        own += [path, read(file)]
+        own += [path, bare(read(file), path) if path.endswith((".rt", ".antt")) else read(file)]
     return sum_of(*own), sum_of(*[f"{dep} {stated(dep)}" for dep in below(name, crates)])
 
 
@@ -248,6 +258,11 @@ def check(crates, names):
         for line in rows[name][1:]:
             if re.match(rf"\S+ ({'|'.join(FAULTS)})", line):
                 print(line)
+                missed += 1
+        for path in edits_of(name):
+            _, why = applied(path, name)
+            if why:
+                print(f"{name}/{os.path.basename(path)} can't be applied: {why}")
                 missed += 1
     lost = [name for name in rows if name not in names]
     for name in lost:

@@ -1,4 +1,0 @@
-pub mod EmptyKeyBlock
-pub mod LiveBlocks
-pub mod UnchangedCache
-pub mod HitRows
