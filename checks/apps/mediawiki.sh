@@ -9,8 +9,9 @@
 # SO is the extension (php/ext/modules/apcu.so), REPLAY the program apcu_replay (capi/apcu_replay). In the environment
 # COMPARED is how many pages one client asks of both at least (200; 0: none), REQUESTS how many four clients make while
 # calls are recorded (2000), PORT the first port (8141), PACKAGES a folder that has the two packages already. Times and
-# tokens are left out of the comparison; what else differs is shown, and is no fault. It needs php-apcu php-sqlite3
-# php-intl php-mbstring php-xml php-dev python3.
+# tokens are left out of the comparison; what else differs is shown, and is no fault. COST=ROUNDS compares nothing and
+# judges nothing, but prints the processor time of a request with kept values (apc.kept_size), without them and over APCu,
+# the least of the rounds. It needs php-apcu php-sqlite3 php-intl php-mbstring php-xml php-dev python3.
 set -eu
 top=$(cd "$(dirname "${BASH_SOURCE[0]}")/../.." && pwd)
 so=$(realpath -- "${1:-$top/php/ext/modules/apcu.so}")
@@ -105,8 +106,32 @@ record() {
     [ "$got" = 0 ] || { echo "the verdict's status is $got" >&2; status=1; }
 }
 
+# The least processor time of a request of one process, by the side: kept values, ours without them, APCu.
+cost() {
+    local round side before requests=400
+    for ((round = 0; round < $1; round++)); do
+        for side in kept ours apcu; do
+            case $side in
+                kept) serve "$so" 1 -d apc.kept_size=16M ;;
+                ours) serve "$so" 1 ;;
+                apcu) serve "$(php-config --extension-dir)/apcu.so" 1 ;;
+            esac
+            before=$(awk '{ print $14 + $15 }' "/proc/$server/stat")
+            drive - "$requests" 1 >"$scratch/driven"
+            awk -v side="$side" -v before="$before" -v requests="$requests" -v ticks="$(getconf CLK_TCK)" \
+                '{ printf "%s %.2f\n", side, 1000 * ($14 + $15 - before) / ticks / requests }' "/proc/$server/stat"
+            stop
+        done
+    done | tee "$scratch/costs" >&2
+    sort -k 1,1 -k 2,2n "$scratch/costs" | awk '!($1 in seen) { seen[$1]; print $1 ": " $2 " ms of processor time a request" }'
+}
+
 unpack
 install_wiki
+if [ -n "${COST:-}" ]; then
+    cost "$COST"
+    exit "$status"
+fi
 [ "$compared" = 0 ] || compare
 record
 exit "$status"
