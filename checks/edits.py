@@ -160,7 +160,7 @@ def statements(text):
 
 def bare(text, path):
     """The file without the lines that are comments: a change of these turns no outcome. A line that goes on a string stays."""
-    mark, kept, before = "--" if path.endswith(".antt") else "//", [], ""
+    mark, kept, before = {".antt": "--", ".edit": "#"}.get(os.path.splitext(path)[1], "//"), [], ""
     for line in text.split("\n"):
         if before.endswith("\\") or not line.lstrip().startswith(mark):
             kept.append(line)
@@ -185,7 +185,8 @@ def stated(name, known={}):
 def sums(name, crates):
     own = [repr(crates[name])]
     for path, file in texts(name, *PARTS, "more-edits").items():
-        own += [path, bare(read(file), path) if path.endswith((".rt", ".antt")) else read(file)]
+        if path.endswith((".rt", ".antt", ".edit")):
+            own += [path, bare(read(file), path)]
     return sum_of(*own), sum_of(*[f"{dep} {stated(dep)}" for dep in below(name, crates)])
 
 
