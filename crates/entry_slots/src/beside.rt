@@ -15,10 +15,9 @@ use seg_words::Segment;
 use sma_blocks::block_laws;
 
 impl EntrySlots {
-    /// All rows leave at once, and the blocks of the removed rows stay: `kept` are their places,
+    /// Frees all rows at once, and keeps the blocks of the removed rows: `kept` are their places,
     /// each greater than the one before. No block may be loose, and no window may name a row's
-    /// block. It takes as long as there are slots, gaps and removed rows, however many rows there
-    /// are.
+    /// block. Its time grows with the slots, the gaps and the removed rows, not with the rows.
     pub fn free_rows_beside<S: Segment>(&mut self, seg: &mut S, kept: &[u32])
         requires stand { Stand S.WordsIn self.old seg.old }
         requires whole { IsWhole (entries self.old) }
@@ -36,6 +35,7 @@ impl EntrySlots {
         self.end_all(seg);
         self.sma.keep(seg, kept);
         self.count = 0;
+        self.soonest = u64::MAX;
         self.standing = self.standing.then(&Change::Clear);
     }
 

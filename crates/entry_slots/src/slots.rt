@@ -19,10 +19,10 @@ ghost use Rattle.entry_slots.specs.Links.{IsLinkTo, IsTarget};
 ghost use Rattle.entry_slots.specs.Reading.{HeadIn};
 
 use crate::finding::Finder;
-use crate::head::{ATIME, CTIME, DTIME, HITS, Head, MTIME, NEXT, NUMBER, TTL};
+use crate::head::{ATIME, CTIME, DTIME, HITS, Head, MTIME, NEXT, NUMBER, TTL, passes_after};
 use crate::keys::{hash_at, slot_in};
 use crate::lower::lower_laws;
-use crate::reading::{count_after, first_of, first_words, has_key_at, next_of};
+use crate::reading::{count_after, first_of, first_words, has_key_at, next_of, soonest_after};
 use crate::standing::{Change, Standing};
 use crate::writing::{NewHead, put_entry};
 use php_graph::{Graph, hash_of};
@@ -43,6 +43,11 @@ pub struct EntrySlots {
     pub(crate) next_number: u64,
     // The number of rows.
     pub(crate) count: u32,
+    // The cache's time to live for rows without one of their own, in seconds; 0 is none.
+    pub(crate) limit: u32,
+    // No row is expired at this moment or before it. The removal of a row does not raise it, so the
+    // first row may expire later.
+    pub(crate) soonest: u64,
     pub(crate) standing: Standing,
 }
 
@@ -53,6 +58,8 @@ impl Drop for EntrySlots {
             removed: _,
             next_number: _,
             count: _,
+            limit: _,
+            soonest: _,
             standing: _,
         } = self;
     }
@@ -156,8 +163,7 @@ impl EntrySlots {
         self.finder().find(seg, key, slot)
     }
 
-    /// Counts that the entry was used at the moment `t`: one hit more, but a count stays at the
-    /// last number.
+    /// Counts a use of the row at the moment `t`: one hit more, up to the largest number.
     pub fn touch<S: Segment>(&mut self, seg: &mut S, at: u32, t: u64)
         requires stand { Stand S.WordsIn self.old seg.old }
         requires there { has_place at (entries self.old).rows ≡ true }
@@ -169,6 +175,7 @@ impl EntrySlots {
         let hits = seg.load(at + HITS);
         seg.store(at + HITS, hits.saturating_add(1));
         seg.store(at + ATIME, t);
+        self.soonest = passes_after(self.soonest, u64::from(self.limit), t);
         self.standing = self.standing.then(&Change::Touch(at, t));
     }
 
@@ -215,8 +222,8 @@ impl EntrySlots {
     }
 
     /// Makes the block at `at`, which was taken for this key and value, a row of the moment `t`. It
-    /// stands in the place of the row at `replaced`, the one of its key, whose block is loose from
-    /// now on; with 0, where no row has the key, it is last.
+    /// takes the place of the row at `replaced`, the one of its key, whose block is loose from now
+    /// on; if no row has the key, `replaced` is 0, and the new row is last.
     pub fn link<S: Segment>(
         &mut self,
         seg: &mut S,
@@ -250,6 +257,7 @@ impl EntrySlots {
         seg.store(link, u64::from(at));
         self.next_number = self.next_number.saturating_add(1);
         self.count = count_after(self.count, replaced);
+        self.soonest = self.soonest_with(ttl, t);
         self.standing = self.standing.then(&Change::Link(at, key, &content, ttl, t));
     }
 
@@ -276,6 +284,7 @@ impl EntrySlots {
         let next = self.behind(seg, at);
         seg.store(link, u64::from(next));
         self.count -= 1;
+        self.soonest = soonest_after(self.count, self.soonest);
         self.standing = self.standing.then(&Change::Unlink(at));
     }
 

@@ -14,8 +14,9 @@ use crate::expunge::sweep_removed;
 use entry_slots::{EntrySlots, standing_laws};
 use seg_words::Segment;
 
-// Drops the expired rows, where the cache has a time limit. Where they are all rows, as where
-// nobody came for a while, all go at once.
+// Drops the expired rows, if the cache has a time limit. If it is known that none is expired, no
+// row is read; if all are, as after a time without requests, all are dropped at once. If some are,
+// one more walk finds when the next row expires, so that until then no call walks in vain.
 fn drop_expired<S: Segment>(slots: &mut EntrySlots, seg: &mut S, ttl: u32, t: u64)
     requires ready { MayDropRows S.WordsIn slots.old seg.old }
     requires limit { ttl ≡ (entries slots.old).conf.ttl }
@@ -24,10 +25,14 @@ fn drop_expired<S: Segment>(slots: &mut EntrySlots, seg: &mut S, ttl: u32, t: u6
         (spent_rows t (entries slots.old)) }
 {
     if ttl > 0 {
+        if slots.knows_none_expired(t) {
+            return;
+        }
         if are_all_expired(slots, seg, ttl, t) {
             expunge_at_once(slots, seg, t);
         } else {
             expunge_expired(slots, seg, ttl, t);
+            slots.note_soonest(seg);
         }
     }
 }
