@@ -61,6 +61,53 @@ fn makes_room_by_expired_rows(rt: HostRuntime) -> Result<(), Fail> {
     )
 }
 
+// At the last second at which no row is expired, a full cache drops all rows.
+#[test]
+fn makes_room_before_a_row_expires(rt: HostRuntime) -> Result<(), Fail> {
+    let mut pair = Pair::new(rt.alloc(), 512, 10)?;
+    pair.each(&rt, (1, 30), (100, put(ONE, 0), YES))?;
+    pair.play(
+        &rt,
+        &[
+            (110, 31, put(ONE, 0), YES),
+            (110, 1, EXISTS, NO),
+            (110, 0, Call::Counts, counts(0, 0, 1, 1, 1)),
+        ],
+    )
+}
+
+// A use at an earlier moment than that of the store lets the row expire sooner.
+#[test]
+fn makes_room_by_a_row_used_at_an_earlier_moment(rt: HostRuntime) -> Result<(), Fail> {
+    let mut pair = Pair::new(rt.alloc(), 512, 10)?;
+    pair.each(&rt, (1, 30), (100, put(ONE, 0), YES))?;
+    pair.play(
+        &rt,
+        &[
+            (90, 1, FETCH, number(1)),
+            (101, 31, put(ONE, 0), YES),
+            (101, 1, EXISTS, NO),
+            (101, 2, EXISTS, YES),
+            (101, 0, Call::Counts, counts(1, 0, 31, 0, 30)),
+        ],
+    )
+}
+
+// A store drops the expired rows of its slot, also those that were stored at an earlier moment than
+// the rows before them, or after the cache had been empty.
+#[test]
+fn drops_rows_of_an_earlier_moment(rt: HostRuntime) -> Result<(), Fail> {
+    let mut pair = Pair::new(rt.alloc(), 2_048, 0)?;
+    pair.each(&rt, (1, 20), (100, put(ONE, 5), YES))?;
+    pair.each(&rt, (1, 20), (100, DELETE, YES))?;
+    pair.each(&rt, (1, 20), (100, put(ONE, 5), YES))?;
+    pair.each(&rt, (21, 40), (50, put(ONE, 5), YES))?;
+    pair.each(&rt, (41, 99), (56, put(ONE, 0), YES))?;
+    pair.each(&rt, (21, 40), (56, EXISTS, NO))?;
+    pair.each(&rt, (1, 20), (105, EXISTS, YES))?;
+    pair.each(&rt, (41, 99), (106, put(ONE, 0), YES))
+}
+
 #[test]
 fn expires(rt: HostRuntime) -> Result<(), Fail> {
     play(

@@ -115,6 +115,8 @@ module _ {e : EntrySlots} {ws : List ℕ} {aside : Aside} (s : Entries) (h : Sta
     apart = refl;
     number = h.number;
     count = refl;
+    limit = h.limit;
+    unexpired = λ t le row c. absurd (none_in_nil row c);
     usable = h.usable;
     from = ap (λ b. b.from) eb ∙ h.from;
     to = ap (λ b. b.to) eb ∙ h.to;

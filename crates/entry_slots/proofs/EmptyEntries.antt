@@ -15,9 +15,9 @@ use Rattle.seg_words.specs.Members.{none_in_nil}
 abbrev pub bare : Conf → ℕ → Entries
 bare conf number = record { conf = conf; rows = []; removed = []; next_number = number; unlinked = []; taken = [] }
 
-pub bare_stands : (e : EntrySlots) (ws : List ℕ) (aside : Aside) (conf : Conf) → IsUsable conf → ((slot : ℕ) → slot < conf.slots → slice_index ws slot ≡ 0) → e.removed ≡ 0 → e.count ≡ 0
+pub bare_stands : (e : EntrySlots) (ws : List ℕ) (aside : Aside) (conf : Conf) → IsUsable conf → ((slot : ℕ) → slot < conf.slots → slice_index ws slot ≡ 0) → e.removed ≡ 0 → e.count ≡ 0 → e.limit ≡ conf.ttl
     → IsReady e.sma ws aside → live_blocks ws e.sma.bounds.from ≡ [] → e.sma.bounds.from ≡ conf.slots → e.sma.bounds.to ≡ conf.words → e.sma.bounds.piece ≡ piece_of conf → Stands e ws aside (bare conf e.next_number)
-bare_stands e ws aside conf usable ended removed count ready live from to piece = record {
+bare_stands e ws aside conf usable ended removed count limit ready live from to piece = record {
   chains = ended;
   removed_chain = removed;
   rows = λ row x. absurd (none_in_nil row x);
@@ -29,6 +29,8 @@ bare_stands e ws aside conf usable ended removed count ready live from to piece 
   apart = refl;
   number = refl;
   count = count;
+  limit = limit;
+  unexpired = λ t le row x. absurd (none_in_nil row x);
   usable = usable;
   from = from;
   to = to;

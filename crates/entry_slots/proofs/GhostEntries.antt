@@ -6,12 +6,12 @@ use Rattle.sma_blocks.specs.Ready.{IsReady}
 use Rattle.entry_slots.specs.declared.slots.EntrySlots.{EntrySlots}
 use Rattle.entry_slots.specs.Lists.{HaveSame, has_place}
 use Rattle.entry_slots.specs.Entries.{Entries, blocks_of, listed}
-use Rattle.entry_slots.specs.Standing.{IsRowChain, Stands, entries}
+use Rattle.entry_slots.specs.Standing.{IsRowChain, AreUnexpired, Stands, entries}
 use Rattle.entry_slots.proofs.PresentRows.{HasEntryAt, HasRowAt}
 
 -- what is kept of the slots, whatever entries are kept beside them
-pub restand : {e e' : EntrySlots} {words : List ℕ} {aside : Aside} {s : Entries} → Stands e words aside s → e'.sma ≡ e.sma → e'.removed ≡ e.removed → e'.next_number ≡ e.next_number → e'.count ≡ e.count → Stands e' words aside s
-restand {e} {e'} {words} {aside} {s} h sma removed number count = record {
+pub restand : {e e' : EntrySlots} {words : List ℕ} {aside : Aside} {s : Entries} → Stands e words aside s → e'.sma ≡ e.sma → e'.removed ≡ e.removed → e'.next_number ≡ e.next_number → e'.count ≡ e.count → e'.limit ≡ e.limit → e'.soonest ≡ e.soonest → Stands e' words aside s
+restand {e} {e'} {words} {aside} {s} h sma removed number count limit soonest = record {
   chains = h.chains;
   removed_chain = subst (λ at. IsRowChain words at s.removed) (sym removed) h.removed_chain;
   rows = h.rows;
@@ -23,6 +23,8 @@ restand {e} {e'} {words} {aside} {s} h sma removed number count = record {
   apart = h.apart;
   number = number ∙ h.number;
   count = count ∙ h.count;
+  limit = limit ∙ h.limit;
+  unexpired = subst (λ n. AreUnexpired s.conf n s.rows) (sym soonest) h.unexpired;
   usable = h.usable;
   from = ap (λ a. a.bounds.from) sma ∙ h.from;
   to = ap (λ a. a.bounds.to) sma ∙ h.to;

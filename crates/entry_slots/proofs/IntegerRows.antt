@@ -28,6 +28,7 @@ use Rattle.entry_slots.proofs.RowBlocks.{room, home_row}
 use Rattle.entry_slots.proofs.WordChanges.{OnlyIn, only_none, only_set}
 use Rattle.entry_slots.proofs.Frames.{run_same}
 use Rattle.entry_slots.proofs.RowChanges.{Keeps, rewritten}
+use Rattle.entry_slots.proofs.UnexpiredRows.{number_unexpired}
 use Rattle.entry_slots.proofs.DistinctPlaces.{rows_removed, rows_unlinked, rows_one}
 
 -- a graph whose first place is an integer has no other place
@@ -155,3 +156,4 @@ number_stands law {e} {ws} {aside} s h at i t n v own there place int fits ei =
     rw here (subst (λ (r : Row). IsEntry ws' (record r { graph = kinds.Int n ∷ []; mtime = t })) is entry))
     (λ row c. rows_removed h own row there c)
     (λ row c. rows_unlinked h own row there c)
+    (number_unexpired s.conf e.soonest at n t s.rows h.unexpired)

@@ -8,6 +8,7 @@ pub mod KeyWords
 pub mod WordChanges
 pub mod Frames
 pub mod RowChanges
+pub mod UnexpiredRows
 pub mod DistinctPlaces
 pub mod StorableWords
 pub mod TouchedRows

@@ -1,5 +1,5 @@
 -- The entries after a new one was linked.
-use Rattle.std.proofs.Common.{◌≡◌, ◌≢◌, inl, inr, ℕ, ◌+◌, ◌<◌, Bool, not, eqb, List, ◌∷◌, ◌++◌, length, slice_index, slice_set, refl, sym, ap, ◌∙◌, subst, arith}
+use Rattle.std.proofs.Common.{◌≡◌, ◌≢◌, inl, inr, ℕ, ◌+◌, ◌<◌, ◌≤◌, Bool, false, not, eqb, List, ◌∷◌, ◌++◌, length, slice_index, slice_set, refl, sym, ap, ◌∙◌, subst, arith}
 use Rattle.std.proofs.lemmas.Bool.{cases_eq, eq-eqb}
 use Rattle.std.proofs.lemmas.List.Elements.{Contains-append_cases}
 use Rattle.std.specs.List.{Contains, filter, count_by}
@@ -9,6 +9,7 @@ use Rattle.seg_words.specs.Windows.{Aside}
 use Rattle.php_graph.specs.declared.kind.Kind.{Kind}
 use Rattle.apcu_model.specs.Cache.{Row, has_key, extent_of, risen}
 use Rattle.apcu_model.specs.Change.{with_row}
+use Rattle.apcu_model.specs.Expiry.{is_expired}
 use Rattle.apcu_model.specs.SlotOrder.{is_in_slot, slot_of}
 use Rattle.entry_slots.specs.declared.slots.EntrySlots.{EntrySlots}
 use Rattle.entry_slots.specs.Lists.{is_at, begins_at}
@@ -66,8 +67,9 @@ module _ {e : EntrySlots} {ws : List ℕ} {aside : Aside} (s : Entries) (h : Sta
       )
 
   pub linked_stands : Laws → (number count : ℕ) → number ≡ risen s.next_number → count ≡ length (with_row (stored_row key g ttl t at s.next_number) s.rows)
+      → ((now : ℕ) → now ≤ e.soonest → is_expired s.conf now (stored_row key g ttl t at s.next_number) ≡ false)
       → Stands (record e { next_number = number; count = count }) (slice_set ws m at) aside (linked at key g ttl t s)
-  linked_stands law number count en ec =
+  linked_stands law number count en ec unexpired =
       let row : Row = stored_row key g ttl t at s.next_number in
       record {
         chains = λ two low. elim (cases_eq two slot) [
@@ -99,6 +101,11 @@ module _ {e : EntrySlots} {ws : List ℕ} {aside : Aside} (s : Entries) (h : Sta
         apart = law.rows.more row s.rows h.apart;
         number = en;
         count = ec;
+        limit = h.limit;
+        unexpired = λ now le x c. elim (with_row_there row s.rows x c) [
+          | inl here ↦ subst (λ r. is_expired s.conf now r ≡ false) (sym here) (unexpired now le)
+          | inr old ↦ h.unexpired now le x old
+        ];
         usable = h.usable;
         from = h.from;
         to = h.to;

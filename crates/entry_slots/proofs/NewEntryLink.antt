@@ -19,6 +19,7 @@ use Rattle.value_image.specs.Rows.{written, MayWrite}
 use Rattle.value_image.specs.Image.{image_of}
 use Rattle.apcu_model.specs.Cache.{Row, has_key, risen}
 use Rattle.apcu_model.specs.Change.{with_row}
+use Rattle.apcu_model.specs.Expiry.{is_expired}
 use Rattle.apcu_model.specs.SlotOrder.{is_in_slot, slot_of}
 use Rattle.entry_slots.specs.declared.slots.EntrySlots.{EntrySlots}
 use Rattle.entry_slots.specs.declared.writing.NewHead.{NewHead}
@@ -121,9 +122,10 @@ module _ {e : EntrySlots} {ws : List ℕ} {aside : Aside} (s : Entries) (h : Sta
   pub link_stands : Laws → (new_head : NewHead) → IsGraph g → AreBytes key → new_head.ttl < 2 ^ 32 → new_head.number ≡ e.next_number → (replaced slot m : ℕ) → replaced ≡ found_place (find (has_key key) s.rows) → slot ≡ slot_of s.conf key → slot < e.sma.bounds.from
       → IsLinkTo ws slot (chain_of s slot) replaced m → (replaced ≢ 0 → new_head.next ≡ slice_index ws (replaced + NEXT)) → (replaced ≡ 0 → new_head.next ≡ 0)
       → (number count : ℕ) → number ≡ risen e.next_number → count ≡ cond (eqb replaced 0) (e.count + 1) e.count
+      → ((now : ℕ) → now ≤ e.soonest → is_expired s.conf now (stored_row key g new_head.ttl new_head.now at s.next_number) ≡ false)
       → Stands (record e { next_number = number; count = count }) (slice_set (written ws (at + NEXT) (entry_words key g new_head)) m at) aside (linked at key g new_head.ttl new_head.now s)
   unfolding Old
-  link_stands law new_head graph bytes ttl number_is replaced slot m er es lt link over none number count en ec =
+  link_stands law new_head graph bytes ttl number_is replaced slot m er es lt link over none number count en ec unexpired =
       let b : Extent = record { place = at; size = block_size (length key) g } in
       let ws1 : List ℕ = written ws (at + NEXT) (entry_words key g new_head) in
       let h1 : Stands e ws1 aside s = entry_stands law new_head in
@@ -140,7 +142,7 @@ module _ {e : EntrySlots} {ws : List ℕ} {aside : Aside} (s : Entries) (h : Sta
             let split : chain_of s slot ≡ link.front ++ [] = link.split ∙ ap (λ rs. link.front ++ rs) empty in
             linked_stands s h1 at key g new_head.ttl new_head.now taken entry slot lt (sym es) m link.front [] [] split link.follows (λ q c. c) (made.1 ∙ none fresh.0)
             (own_slot_last s slot new (sym es) fresh.1 ∙ ap (λ rs. rs ++ new ∷ []) (split ∙ append-nil link.front))
-            law number count risen_is (ec ∙ (ap (λ (b : Bool). cond {A = ℕ} b (e.count + 1) e.count) (eq-eqb replaced 0 fresh.0) ∙ count_last new fresh.1))
+            law number count risen_is (ec ∙ (ap (λ (b : Bool). cond {A = ℕ} b (e.count + 1) e.count) (eq-eqb replaced 0 fresh.0) ∙ count_last new fresh.1)) unexpired
         | inr old ↦
             let first = back_some old link.back link.split link.rest in
             let row : Row = first.0 in
@@ -156,7 +158,7 @@ module _ {e : EntrySlots} {ws : List ℕ} {aside : Aside} (s : Entries) (h : Sta
             let has : has_key key row ≡ true = ap (has_key key) first.4 ∙ old.3 in
             linked_stands s h1 at key g new_head.ttl new_head.now taken entry slot lt (sym es) m link.front (row ∷ more) more split link.follows (λ q c. Contains-later row more q c) (subst (λ n. IsRowChain ws1 n more) (sym next) chain1.1)
             (own_slot_over law s slot new link.front row more h.apart (any_from (has_key key) s.rows old.0 old.2 old.3) split has)
-            law number count risen_is (ec ∙ (ap (λ (b : Bool). cond {A = ℕ} b (e.count + 1) e.count) (ne_eqb replaced 0 some) ∙ count_over new (any_from (has_key key) s.rows old.0 old.2 old.3)))
+            law number count risen_is (ec ∙ (ap (λ (b : Bool). cond {A = ℕ} b (e.count + 1) e.count) (ne_eqb replaced 0 some) ∙ count_over new (any_from (has_key key) s.rows old.0 old.2 old.3))) unexpired
       ]
     where
       back_none : (back : List Row) → chain_of s slot ≡ link.front ++ back → IsRowChain ws replaced back → replaced ≡ 0 → back ≡ []

@@ -11,7 +11,7 @@ use Rattle.apcu_model.specs.Cache.{Row, extent_of}
 use Rattle.apcu_model.specs.SlotOrder.{is_in_slot, slot_of}
 use Rattle.entry_slots.specs.declared.slots.EntrySlots.{EntrySlots}
 use Rattle.entry_slots.specs.Entries.{Entries, chain_of}
-use Rattle.entry_slots.specs.Standing.{IsRowChain, IsEntry, Stands}
+use Rattle.entry_slots.specs.Standing.{IsRowChain, IsEntry, AreUnexpired, Stands}
 use Rattle.entry_slots.specs.Lower.{Laws}
 use Rattle.seg_words.specs.Members.{Contains-cases, Contains-first, Contains-later, none_in_nil, Contains-filter}
 use Rattle.entry_slots.proofs.RowBlocks.{IsHome, room, home_row, home_removed, home_unlinked}
@@ -92,9 +92,9 @@ module _ {e : EntrySlots} {ws : List ℕ} {aside : Aside} {s : Entries} (h : Sta
 
   -- the entries after the change, where f says what became of each row
   pub rewritten : Laws → (f : Row → Row) → Keeps f → ((row : Row) → row.place ≢ own.place → f row ≡ row) → ((row : Row) → Contains s.rows row → row.place ≡ own.place → IsEntry ws' (f row))
-      → ((row : Row) → Contains s.removed row → row.place ≢ own.place) → ((row : Row) → Contains s.unlinked row → row.place ≢ own.place)
+      → ((row : Row) → Contains s.removed row → row.place ≢ own.place) → ((row : Row) → Contains s.unlinked row → row.place ≢ own.place) → AreUnexpired s.conf e.soonest (map f s.rows)
       → Stands e ws' aside (record s { rows = map f s.rows })
-  rewritten law f keeps stays entry removed unlinked =
+  rewritten law f keeps stays entry removed unlinked unexpired =
       let home : (row : Row) → Contains s.rows row → IsHome e ws aside row = λ row c. home_row row h c in
       record {
         chains = λ slot lt.
@@ -117,6 +117,8 @@ module _ {e : EntrySlots} {ws : List ℕ} {aside : Aside} {s : Entries} (h : Sta
         apart = law.rows.changed f s.rows keeps.key ∙ h.apart;
         number = h.number;
         count = h.count ∙ sym (length-map s.rows f);
+        limit = h.limit;
+        unexpired = unexpired;
         usable = h.usable;
         from = h.from;
         to = h.to;

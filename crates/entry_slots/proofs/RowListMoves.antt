@@ -53,6 +53,8 @@ relisted law {e} {ws} {aside} s h ws' change entry chains first removed unlinked
   apart = h.apart;
   number = h.number;
   count = h.count;
+  limit = h.limit;
+  unexpired = h.unexpired;
   usable = h.usable;
   from = h.from;
   to = h.to;
@@ -224,6 +226,8 @@ given_stands law {e} {ws} {aside} s h at q there place sma' ws' live same eb rea
       apart = h.apart;
       number = h.number;
       count = h.count;
+      limit = h.limit;
+      unexpired = h.unexpired;
       usable = h.usable;
       from = ap (λ b. b.from) eb ∙ h.from;
       to = ap (λ b. b.to) eb ∙ h.to;

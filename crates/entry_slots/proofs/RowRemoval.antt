@@ -126,6 +126,8 @@ module _ {e : EntrySlots} {ws : List ℕ} {aside : Aside} (s : Entries) (h : Sta
     apart = h.apart;
     number = h.number;
     count = h.count;
+    limit = h.limit;
+    unexpired = h.unexpired;
     usable = h.usable;
     from = h.from;
     to = h.to;

@@ -106,6 +106,12 @@ step_listed {s = s} {slot = slot} h = record {
   place = sym h.place;
 }
 
+pub step_row : {ws : List ℕ} {s : Entries} {slot : ℕ} {key : List ℕ} {t at link passed : ℕ} {stale : Bool} (h : Step ws s slot key t at link passed stale) → Contains s.rows h.row
+step_row {s = s} {slot = slot} h = (Contains-filter (is_in_slot s.conf slot) s.rows h.row (step_in h)).0
+
+pub step_there : {ws : List ℕ} {s : Entries} {slot : ℕ} {key : List ℕ} {t at link passed : ℕ} {stale : Bool} (h : Step ws s slot key t at link passed stale) → has_place at s.rows ≡ true
+step_there {s = s} {at = at} h = any_from (is_at at) s.rows h.row (step_row h) (eq-eqb h.row.place at (sym h.place))
+
 pub listed_there : (s : Entries) (at : ℕ) (row : Row) → IsListed s at row → has_place at (listed s) ≡ true
 listed_there s at row l = any_from (is_at at) (listed s) row l.there (eq-eqb row.place at l.place)
 
@@ -203,6 +209,19 @@ unfolding spot_link
 rest_start {s = s} {t = t} spot h p fresh =
     let link = spot_link spot h p in
     record { front = p.front; back = p.back; split = p.split; many = omega arith; none = sym p.stale_is ∙ fresh; rest = link.rest }
+
+-- a walk begins at the first row
+pub rest_first : {e : EntrySlots} {ws : List ℕ} {aside : Aside} (s : Entries) (slot t at : ℕ) → Stands e ws aside s → slot < s.conf.slots → at ≡ first_place (chain_of s slot) → Rest ws s slot t at 0
+rest_first {ws = ws} s slot t at h lt first =
+    let chain = h.chains slot lt in
+    record {
+      front = [];
+      back = chain_of s slot;
+      split = refl;
+      many = omega arith;
+      none = refl;
+      rest = subst (λ a. IsRowChain ws a (chain_of s slot)) (chain_first ws (slice_index ws slot) (chain_of s slot) chain ∙ sym first) chain;
+    }
 
 pub rest_at : {ws : List ℕ} {s : Entries} {slot t at passed : ℕ} → Rest ws s slot t at passed → at ≢ 0 → RestAt ws s slot t at passed
 rest_at {ws} {s} {slot} {t} {at} {passed} h some = go h.back h.split h.rest

@@ -75,6 +75,8 @@ taken_stands law {e} {ws} {aside} s at n sma' ws' h some fit live same eb ready 
       apart = h.apart;
       number = h.number;
       count = h.count;
+      limit = h.limit;
+      unexpired = h.unexpired;
       usable = h.usable;
       from = ap (λ b. b.from) eb ∙ h.from;
       to = ap (λ b. b.to) eb ∙ h.to;
@@ -109,6 +111,8 @@ take_none {e} {ws} {aside} {s} sma' ws' aside' h eb ready ew ea =
       apart = k.apart;
       number = k.number;
       count = k.count;
+      limit = k.limit;
+      unexpired = k.unexpired;
       usable = k.usable;
       from = ap (λ b. b.from) eb ∙ k.from;
       to = ap (λ b. b.to) eb ∙ k.to;

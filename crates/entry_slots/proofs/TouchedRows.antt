@@ -1,7 +1,8 @@
 -- An entry that was used.
-use Rattle.std.proofs.Common.{◌≡◌, ◌≢◌, ℕ, ◌+◌, ◌≤◌, true, false, cond, List, length, slice_index, slice_set, refl, sym, ap, ◌∙◌, subst, arith}
+use Rattle.std.proofs.Common.{◌≡◌, ◌≢◌, ℕ, ◌+◌, ◌≤◌, ◌&&◌, true, false, cond, List, length, slice_index, slice_set, refl, sym, ap, ◌∙◌, subst, arith}
 use Rattle.std.proofs.lemmas.Bool.{eqb-true, eq-eqb, ne_eqb}
 use Rattle.std.proofs.lemmas.List.{length-set, get_or-set_same, get_or-set_other}
+use Rattle.std.specs.Prelude.{nat_lt}
 use Rattle.seg_words.specs.declared.layout.TheConstants.{HEAD_WORDS}
 use Rattle.entry_slots.specs.declared.head.TheConstants.{TTL, MTIME, ATIME, DTIME, HITS}
 use Rattle.seg_words.specs.Windows.{Aside}
@@ -18,6 +19,7 @@ use Rattle.entry_slots.proofs.RowBlocks.{IsHome, room, home_row}
 use Rattle.entry_slots.proofs.WordChanges.{OnlyIn, only_none, only_set}
 use Rattle.entry_slots.proofs.Frames.{SameBut, entry_dated}
 use Rattle.entry_slots.proofs.RowChanges.{Keeps, rewritten}
+use Rattle.entry_slots.proofs.UnexpiredRows.{touched_unexpired}
 use Rattle.entry_slots.proofs.DistinctPlaces.{rows_removed, rows_unlinked}
 
 pub row_at : {e : EntrySlots} {ws : List ℕ} {aside : Aside} {at : ℕ} → HasRowAt e ws aside at → (row : Row) × IsHome e ws aside row × (row.place ≡ at)
@@ -56,8 +58,8 @@ touch_entry law ws row at t h e inside =
     (other (row.place + DTIME) (omega arith) (omega arith) ∙ h.dtime)
     (ap (slice_index ws') nine ∙ (get_or-set_other once (at + ATIME) (at + HITS) t 0 (omega arith) ∙ get_or-set_same ws (at + HITS) (risen row.hits) 0 (omega arith)))
 
-pub touch_stands : Laws → {e : EntrySlots} {ws : List ℕ} {aside : Aside} (s : Entries) (at hits t : ℕ) → Stands e ws aside s → has_place at s.rows ≡ true → hits ≡ risen (slice_index ws (at + HITS)) → Stands e (touched_words ws at hits t) aside (touched_in at t s)
-touch_stands law {e} {ws} {aside} s at hits t h there eh =
+pub touch_stands : Laws → {e : EntrySlots} {ws : List ℕ} {aside : Aside} (s : Entries) (at hits t : ℕ) → Stands e ws aside s → has_place at s.rows ≡ true → hits ≡ risen (slice_index ws (at + HITS)) → ((now : ℕ) → now ≤ e.soonest → (nat_lt 0 s.conf.ttl && nat_lt (t + s.conf.ttl) now) ≡ false) → Stands e (touched_words ws at hits t) aside (touched_in at t s)
+touch_stands law {e} {ws} {aside} s at hits t h there eh unpassed =
     let r = any_there (is_at at) s.rows there in
     let own : Row = r.0 in
     let place : own.place ≡ at = eqb-true own.place at r.2 in
@@ -74,3 +76,4 @@ touch_stands law {e} {ws} {aside} s at hits t h there eh =
     rw here (subst (λ n. IsEntry (touched_words ws at n t) (touched t row)) (sym words) entry))
     (λ row c. rows_removed h own row r.1 c)
     (λ row c. rows_unlinked h own row r.1 c)
+    (touched_unexpired s.conf e.soonest at t s.rows h.unexpired unpassed)

@@ -99,6 +99,8 @@ unlink_stands law {e} {ws} {aside} s h at slot m next lt there link en count ec 
       apart = law.rows.picked (λ r. not (is_at at r)) s.rows h.apart;
       number = h.number;
       count = omega (arith, ec, h.count, fewer own.0 in_rows place);
+      limit = h.limit;
+      unexpired = λ t le row c. h.unexpired t le row (Contains-filter (λ r. not (is_at at r)) s.rows row c).0;
       usable = h.usable;
       from = h.from;
       to = h.to;

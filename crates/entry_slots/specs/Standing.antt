@@ -1,5 +1,5 @@
 -- When words represent entries.
-use Rattle.std.specs.Prelude.{◌≡◌, ℕ, ◌+◌, ◌<◌, ◌^◌, true, false, List, [], ◌∷◌, length}
+use Rattle.std.specs.Prelude.{◌≡◌, ℕ, ◌+◌, ◌<◌, ◌≤◌, ◌^◌, true, false, List, [], ◌∷◌, length}
 use Rattle.std.specs.Prelude.{slice_index, Contains}
 use Rattle.seg_words.specs.declared.gaps.Extent.{Extent}
 use Rattle.seg_words.specs.declared.segment.WordsIn.{Ghosts}
@@ -15,7 +15,9 @@ use Rattle.value_image.specs.PackedBytes.{words_of}
 use Rattle.value_image.specs.Rows.{StandsAt}
 use Rattle.value_image.specs.Image.{IsImageOf}
 use Rattle.apcu_model.specs.Cache.{Row}
+use Rattle.apcu_model.specs.declared.conf.Conf.{Conf}
 use Rattle.apcu_model.specs.Conf.{IsUsable, piece_of}
+use Rattle.apcu_model.specs.Expiry.{is_expired}
 use Rattle.apcu_model.specs.Rows.{are_apart}
 use Rattle.entry_slots.specs.declared.head.TheConstants.{NEXT, TTL, CTIME, MTIME, ATIME, DTIME}
 use Rattle.entry_slots.specs.declared.head.TheConstants.{HITS, NUMBER}
@@ -54,6 +56,11 @@ pub record IsEntry (words : List ℕ) (row : Row) : Type 0 where
 abbrev pub AreEntries : List ℕ → List Row → Type 0
 AreEntries words rows = (row : Row) → Contains rows row → IsEntry words row
 
+-- none of these rows is expired at the moment `soonest` or before it
+abbrev pub AreUnexpired : Conf → ℕ → List Row → Type 0
+AreUnexpired conf soonest rows =
+    (t : ℕ) → t ≤ soonest → (row : Row) → Contains rows row → is_expired conf t row ≡ false
+
 -- no window names one of these blocks
 abbrev pub AreUnnamed : List ℕ → List Extent → Type 0
 AreUnnamed windows blocks =
@@ -77,6 +84,9 @@ pub record Stands (e : EntrySlots) (words : List ℕ) (aside : Aside) (s : Entri
   pub apart : are_apart s.rows ≡ true
   pub number : e.next_number ≡ s.next_number
   pub count : e.count ≡ length s.rows
+  -- up to a moment that is kept beside the words, no row is expired
+  pub limit : e.limit ≡ s.conf.ttl
+  pub unexpired : AreUnexpired s.conf e.soonest s.rows
   -- the bounds are those of the shape
   pub usable : IsUsable s.conf
   pub from : e.sma.bounds.from ≡ s.conf.slots

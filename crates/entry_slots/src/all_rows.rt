@@ -38,6 +38,8 @@ impl EntrySlots {
             removed: 0,
             next_number: 1,
             count: 0,
+            limit: conf.ttl,
+            soonest: u64::MAX,
             standing: Standing::start(conf),
         }
     }

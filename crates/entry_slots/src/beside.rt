@@ -36,6 +36,7 @@ impl EntrySlots {
         self.end_all(seg);
         self.sma.keep(seg, kept);
         self.count = 0;
+        self.soonest = u64::MAX;
         self.standing = self.standing.then(&Change::Clear);
     }
 

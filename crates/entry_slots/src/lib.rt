@@ -4,6 +4,7 @@
 mod all_rows;
 mod beside;
 mod copying;
+mod expiring;
 mod finding;
 mod head;
 mod keys;

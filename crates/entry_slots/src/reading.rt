@@ -1,7 +1,7 @@
 //! Reading the words of slots and blocks.
 
-ghost use Rattle.std.specs.Prelude.{◌≡◌, ℕ, ◌+◌, ◌<◌, ◌≤◌, ◌^◌, ◌==◌, if◌then◌else◌, length};
-ghost use Rattle.std.specs.Prelude.{slice_index};
+ghost use Rattle.std.specs.Prelude.{◌≡◌, ◌≢◌, ℕ, ◌+◌, ◌<◌, ◌≤◌, ◌^◌, ◌==◌, if◌then◌else◌};
+ghost use Rattle.std.specs.Prelude.{length, slice_index};
 ghost use Rattle.seg_words.specs.Kept.{Kept};
 ghost use Rattle.seg_words.specs.declared.layout.TheConstants.{HEAD_WORDS, PIN_COUNT};
 ghost use Rattle.seg_words.specs.Blocks.{IsTold};
@@ -98,4 +98,12 @@ pub(crate) fn count_after(count: u32, replaced: u32) -> u32
     ensures { result ≡ (if replaced == 0 then count + 1 else count) }
 {
     if replaced == 0 { count + 1 } else { count }
+}
+
+// The moment up to which no row is expired, after one of the rows left and `count` are left.
+pub(crate) fn soonest_after(count: u32, soonest: u64) -> u64
+    ensures some { count ≢ 0 → result ≡ soonest }
+    ensures none { count ≡ 0 → result + 1 ≡ 2 ^ 64 }
+{
+    if count == 0 { u64::MAX } else { soonest }
 }

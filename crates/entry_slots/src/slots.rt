@@ -19,10 +19,10 @@ ghost use Rattle.entry_slots.specs.Links.{IsLinkTo, IsTarget};
 ghost use Rattle.entry_slots.specs.Reading.{HeadIn};
 
 use crate::finding::Finder;
-use crate::head::{ATIME, CTIME, DTIME, HITS, Head, MTIME, NEXT, NUMBER, TTL};
+use crate::head::{ATIME, CTIME, DTIME, HITS, Head, MTIME, NEXT, NUMBER, TTL, passes_after};
 use crate::keys::{hash_at, slot_in};
 use crate::lower::lower_laws;
-use crate::reading::{count_after, first_of, first_words, has_key_at, next_of};
+use crate::reading::{count_after, first_of, first_words, has_key_at, next_of, soonest_after};
 use crate::standing::{Change, Standing};
 use crate::writing::{NewHead, put_entry};
 use php_graph::{Graph, hash_of};
@@ -43,6 +43,11 @@ pub struct EntrySlots {
     pub(crate) next_number: u64,
     // The number of rows.
     pub(crate) count: u32,
+    // The cache's time to live for rows without one of their own, in seconds; 0 is none.
+    pub(crate) limit: u32,
+    // No row is expired at this moment or before it. The removal of a row does not raise it, so the
+    // first row may expire later.
+    pub(crate) soonest: u64,
     pub(crate) standing: Standing,
 }
 
@@ -53,6 +58,8 @@ impl Drop for EntrySlots {
             removed: _,
             next_number: _,
             count: _,
+            limit: _,
+            soonest: _,
             standing: _,
         } = self;
     }
@@ -169,6 +176,7 @@ impl EntrySlots {
         let hits = seg.load(at + HITS);
         seg.store(at + HITS, hits.saturating_add(1));
         seg.store(at + ATIME, t);
+        self.soonest = passes_after(self.soonest, u64::from(self.limit), t);
         self.standing = self.standing.then(&Change::Touch(at, t));
     }
 
@@ -250,6 +258,7 @@ impl EntrySlots {
         seg.store(link, u64::from(at));
         self.next_number = self.next_number.saturating_add(1);
         self.count = count_after(self.count, replaced);
+        self.soonest = self.soonest_with(ttl, t);
         self.standing = self.standing.then(&Change::Link(at, key, &content, ttl, t));
     }
 
@@ -276,6 +285,7 @@ impl EntrySlots {
         let next = self.behind(seg, at);
         seg.store(link, u64::from(next));
         self.count -= 1;
+        self.soonest = soonest_after(self.count, self.soonest);
         self.standing = self.standing.then(&Change::Unlink(at));
     }
 

@@ -20,7 +20,7 @@ ghost use Rattle.value_image.specs.Contained.{graph_of};
 use crate::head::NEXT;
 use crate::keys::slot_in;
 use crate::lower::lower_laws;
-use crate::reading::{count_after, next_of};
+use crate::reading::{count_after, next_of, soonest_after};
 use crate::slots::EntrySlots;
 use crate::standing::Change;
 use crate::writing::{NewHead, put_entry};
@@ -98,7 +98,7 @@ impl EntrySlots {
                     stale,
                 };
             }
-            let over = self.is_expired(seg, at, limit, t);
+            let over = self.is_row_expired(seg, at, limit, t);
             stale = either(stale, over);
             link = at + NEXT;
             at = next_of(seg, at);
@@ -111,8 +111,8 @@ impl EntrySlots {
         }
     }
 
-    /// Whether a row of the chain is expired. It continues the walk that found the spot: the rows
-    /// before it are not read again.
+    /// Whether a row of the chain is expired. The walk that found the spot is continued: the rows
+    /// before it are not read again. No row is read if none can be expired yet.
     pub fn has_expired<S: WordsIn>(&self, seg: &mut S, spot: Spot, limit: u32, t: u64) -> bool
         requires stand { Stand S.WordsIn self.now seg.old }
         requires spot { IsSpot (entries self.now) t spot }
@@ -121,6 +121,9 @@ impl EntrySlots {
             (chain_of (entries self.now) spot.slot) }
         ensures kept { Kept S.WordsIn seg.old seg.new }
     {
+        if t <= self.soonest {
+            return false;
+        }
         if spot.stale {
             return true;
         }
@@ -186,6 +189,7 @@ impl EntrySlots {
         seg.store(spot.link, u64::from(at));
         self.next_number = self.next_number.saturating_add(1);
         self.count = count_after(self.count, spot.at);
+        self.soonest = self.soonest_with(ttl, t);
         self.standing = self.standing.then(&Change::Link(at, key, content, ttl, t));
     }
 
@@ -203,6 +207,7 @@ impl EntrySlots {
         let next = self.behind_spot(seg, spot.at);
         seg.store(spot.link, u64::from(next));
         self.count -= 1;
+        self.soonest = soonest_after(self.count, self.soonest);
         self.standing = self.standing.then(&Change::Unlink(spot.at));
     }
 }

@@ -1,11 +1,12 @@
 -- Steps of an event beside calls that only read.
-use Rattle.std.proofs.Common.{List, [], ℕ, sym, ◌∙◌, subst}
+use Rattle.std.proofs.Common.{◌≡◌, List, [], ℕ, sym, ◌∙◌, subst}
 use Rattle.seg_words.specs.Windows.{Aside}
 use Rattle.seg_words.specs.declared.segment.WordsIn.{Ghosts}
 use Rattle.seg_words.specs.Kept.{Kept}
 use Rattle.apcu_model.specs.Cache.{Row}
 use Rattle.entry_slots.specs.declared.slots.EntrySlots.{EntrySlots}
-use Rattle.entry_slots.specs.Standing.{entries}
+use Rattle.entry_slots.specs.Entries.{Entries}
+use Rattle.entry_slots.specs.Standing.{Stand, entries}
 use Rattle.ttl_expunge.specs.ProbedRows.{AreRemoved, Drops, Moves}
 use Rattle.ttl_expunge.specs.Steps.{MayDropRows, DropsRows, MovesRows}
 use Rattle.ttl_expunge.proofs.ReadOnlyCalls.{stand_kept}
@@ -41,6 +42,16 @@ moves_kept {gh = gh} {e} {e'} {old} {begun} {after} {t} {seen} kept m = record {
   moves = subst (λ (a : Aside). Moves (entries e) (entries e') a (gh.aside after) t seen) kept.aside m.moves;
   stand = m.stand;
   rest = m.rest ∙ kept.rest;
+}
+
+-- they are the same rows, if a call after it leaves the entries as they are
+pub drops_as : {X R : Type 0} {gh : Ghosts X R} {e e' e'' : EntrySlots} {old last after : X} {t : ℕ} {gone : List Row}
+    → DropsRows gh e e' old last t gone → entries e'' ≡ entries e' → Stand gh e'' after → Kept gh last after → DropsRows gh e e'' old after t gone
+drops_as {gh = gh} {e} {e'} {e''} {old} {last} {after} {t} {gone} d same stand kept = record {
+  drops = subst (λ (x : Entries). Drops (entries e) x (gh.aside old) (gh.aside after) t gone) (sym same)
+      (subst (λ (a : Aside). Drops (entries e) (entries e') (gh.aside old) a t gone) (sym kept.aside) d.drops);
+  stand = stand;
+  rest = kept.rest ∙ d.rest;
 }
 
 -- rows that were dropped before a call that only reads are dropped till after it

@@ -24,10 +24,14 @@ fn drop_expired<S: Segment>(slots: &mut EntrySlots, seg: &mut S, ttl: u32, t: u6
         (spent_rows t (entries slots.old)) }
 {
     if ttl > 0 {
+        if slots.knows_none_expired(t) {
+            return;
+        }
         if are_all_expired(slots, seg, ttl, t) {
             expunge_at_once(slots, seg, t);
         } else {
             expunge_expired(slots, seg, ttl, t);
+            slots.note_soonest(seg);
         }
     }
 }

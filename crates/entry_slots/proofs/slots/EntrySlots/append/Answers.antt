@@ -34,4 +34,4 @@ returns-clause-stand g c =
     (named_stands c.args.self.now c.name.new.self ws (g.S.WordsIn.words c.name.new.seg) (g.S.WordsIn.aside c.removed_link.new.seg) c.in-Some.link c.args.at (moved_at c.args.at s) c.name.ensures.head c.name.ensures.word
     (λ none. moved_head s h1 c.args.at c.lower_laws.ensures q.0 q.1 q.2 alone c.in-Some.link link none)
     (λ some. moved_word s h1 c.args.at c.lower_laws.ensures q.0 q.1 q.2 alone c.in-Some.link link some))
-    refl c.name.ensures.beside.aside) refl refl refl refl)
+    refl c.name.ensures.beside.aside) refl refl refl refl refl refl)

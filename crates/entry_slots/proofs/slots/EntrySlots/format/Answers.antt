@@ -20,11 +20,11 @@ pub returns-clause-stand : goal.returns-clause-stand
 returns-clause-stand g c =
     let ws : List ℕ = g.S.WordsIn.words c.format.new.seg in
     let aside : Aside = g.S.WordsIn.aside c.format.new.seg in
-    let e' : EntrySlots = record { sma = c.format.result; removed = 0; next_number = 1; count = 0; standing = c.start.result } in
+    let e' : EntrySlots = record { sma = c.format.result; removed = 0; next_number = 1; count = 0; limit = c.args.conf.now.ttl; soonest = 18446744073709551615; standing = c.start.result } in
     subst (λ x. Stands e' ws aside x) (sym c.start.ensures)
     (bare_stands e' ws aside c.args.conf.now c.requires.usable
     (λ slot lt. c.format.ensures.before.before slot lt ∙ c.end_chains.ensures.ended slot lt)
-    refl refl c.format.ensures.ready
+    refl refl refl c.format.ensures.ready
     (ap (live_blocks ws) c.format.ensures.from ∙ c.format.ensures.empty)
     c.format.ensures.from
     (c.format.ensures.ready.end ∙ (c.format.ensures.before.count ∙ (c.end_chains.ensures.others.count ∙ c.requires.all)))

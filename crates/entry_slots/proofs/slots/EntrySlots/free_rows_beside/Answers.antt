@@ -8,6 +8,7 @@ use Rattle.entry_slots.specs.Entries.{Entries}
 use Rattle.entry_slots.specs.Standing.{Stands, entries}
 use Rattle.entry_slots.proofs.ClearedRows.{place_live, named_kept, cleared_stands, has_indexed}
 use Rattle.entry_slots.proofs.GhostEntries.{restand}
+use Rattle.entry_slots.proofs.UnexpiredRows.{emptied}
 use Rattle.entry_slots.proofs.slots.EntrySlots.free_rows_beside.Goals as goal
 
 pub end_all-requires-clause-inside : goal.end_all-requires-clause-inside
@@ -51,8 +52,8 @@ returns-clause-stand g c =
     let first : Aside = g.S.WordsIn.aside c.args.seg.now in
     let same : aside ≡ first = c.keep.ensures.beside.aside ∙ c.end_all.ensures.beside.aside in
     let stays = c.block_laws.ensures.before old.sma (g.S.WordsIn.words c.args.seg.now) ws1 first h.ready c.end_all.ensures.others in
-    let e' : EntrySlots = record old { sma = c.keep.new.self; count = 0; standing = c.then-self.result } in
+    let e' : EntrySlots = record old { sma = c.keep.new.self; count = 0; soonest = 18446744073709551615; standing = c.then-self.result } in
     let done = cleared_stands s h c.requires.whole c.args.kept.now c.requires.kept c.lower_laws.ensures ws1 ws c.keep.new.self c.end_all.ensures.others c.end_all.ensures.ended stays.blocks c.keep.ensures.left c.keep.ensures.others c.keep.ensures.bounds
     (subst (λ (a : Aside). IsReady c.keep.new.self ws a) same c.keep.ensures.ready) in
     subst (λ x. Stands e' ws aside x) (sym c.then-self.ensures)
-    (subst (λ (a : Aside). Stands e' ws a (Rattle.entry_slots.specs.Entries.without_rows s)) (sym same) (restand {e' = e'} done refl refl refl refl))
+    (subst (λ (a : Aside). Stands e' ws a (Rattle.entry_slots.specs.Entries.without_rows s)) (sym same) (restand {e' = e'} (emptied done 18446744073709551615 (λ some. absurd (some refl))) refl refl refl refl refl refl))

@@ -34,4 +34,4 @@ returns-clause-stand g c =
     let done = given_stands c.lower_laws.ensures s c.requires.stand at r.0 r.1 r.2 sma ws c.give.ensures.given c.give.ensures.others c.give.ensures.bounds ready in
     let e' = record old { sma = sma; standing = c.then-self.result } in
     subst (λ x. Stands e' ws (g.S.WordsIn.aside c.give.new.seg) x) (sym c.then-self.ensures)
-    (subst (λ a. Stands e' ws a (given_at at s)) (sym c.give.ensures.beside.aside) (restand {e' = e'} done refl refl refl refl))
+    (subst (λ a. Stands e' ws a (given_at at s)) (sym c.give.ensures.beside.aside) (restand {e' = e'} done refl refl refl refl refl refl))

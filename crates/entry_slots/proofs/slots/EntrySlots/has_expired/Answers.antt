@@ -1,11 +1,26 @@
-use Rattle.std.proofs.Common.{ℕ, ◌+◌, List, sym, ap, ◌∙◌, refl, arith, slice_index}
-use Rattle.entry_slots.specs.Standing.{entries}
+use Rattle.std.proofs.Common.{◌≡◌, ℕ, ◌+◌, ◌≤◌, false, List, sym, ap, ◌∙◌, refl, arith, slice_index}
+use Rattle.std.specs.List.{list_any}
+use Rattle.std.proofs.lemmas.Bool.{false≢true, false_from_ne_true}
+use Rattle.seg_words.specs.Members.{any_there, Contains-filter}
+use Rattle.apcu_model.specs.Expiry.{is_expired}
+use Rattle.apcu_model.specs.SlotOrder.{is_in_slot}
+use Rattle.entry_slots.specs.Entries.{Entries, chain_of}
+use Rattle.entry_slots.specs.Standing.{AreUnexpired, entries}
 use Rattle.entry_slots.proofs.RowBlocks.{row_there, room, told_at}
 use Rattle.entry_slots.proofs.PresentRows.{HasEntryAt}
 use Rattle.entry_slots.proofs.Chains.{small_after}
 use Rattle.entry_slots.proofs.KeySearch.{stands_along}
 use Rattle.entry_slots.proofs.SpotSearch.{chain_short, listed_there, rest_start, rest_at, rest_next, rest_listed, rest_expired, rest_end, rest_whole, spot_stale}
 use Rattle.entry_slots.proofs.slots.EntrySlots.has_expired.Goals as goal
+
+-- no row of the chain is expired, since none at all is
+none_expired : (t soonest : ℕ) (s : Entries) (slot : ℕ) → AreUnexpired s.conf soonest s.rows → t ≤ soonest → false ≡ list_any (is_expired s.conf t) (chain_of s slot)
+none_expired t soonest s slot h le = sym (false_from_ne_true (list_any (is_expired s.conf t) (chain_of s slot)) (λ some.
+    let r = any_there (is_expired s.conf t) (chain_of s slot) some in
+    false≢true (sym (h t le r.0 (Contains-filter (is_in_slot s.conf slot) s.rows r.0 r.1).0) ∙ r.2)))
+
+pub returns-then-t-self-clause-expired : goal.returns-then-t-self-clause-expired
+returns-then-t-self-clause-expired g c = let s = entries c.args.self.now in none_expired c.args.t c.args.self.now.soonest s c.args.spot.slot c.requires.stand.unexpired (omega (arith, c.if-t-self.true))
 
 pub returns-then-spot-clause-expired : goal.returns-then-spot-clause-expired
 returns-then-spot-clause-expired g c = spot_stale c.args.spot c.requires.spot c.if-spot.true

@@ -9,9 +9,10 @@ use Rattle.value_image.specs.Rows.{written, MayWrite}
 use Rattle.apcu_model.specs.SlotOrder.{slot_of}
 use Rattle.entry_slots.specs.declared.slots.EntrySlots.{EntrySlots}
 use Rattle.entry_slots.specs.declared.writing.NewHead.{NewHead}
-use Rattle.entry_slots.specs.Entries.{Entries, chain_of}
+use Rattle.entry_slots.specs.Entries.{Entries, chain_of, stored_row}
 use Rattle.entry_slots.specs.Standing.{Stands, entries}
 use Rattle.entry_slots.proofs.GhostEntries.{restand}
+use Rattle.entry_slots.proofs.UnexpiredRows.{lowered}
 use Rattle.entry_slots.specs.Links.{IsLinkTo}
 use Rattle.entry_slots.specs.EntryWords.{entry_words}
 use Rattle.entry_slots.proofs.KeySearch.{stands_along}
@@ -91,10 +92,11 @@ returns-clause-stand g c =
     let words1 : g.S.WordsIn.words c.put_entry.new.seg ≡ ws1 = c.put_entry.ensures.words ∙ ap (λ (v : List ℕ). written v (c.args.at + 1) (entry_words c.args.key.now (graph_of c.args.content.now) new_head)) c.behind_spot.ensures.kept.words in
     let words : g.S.WordsIn.words c.store.new.self ≡ slice_set ws1 c.args.spot.link c.args.at = c.store.ensures.words ∙ (ap (λ (v : List ℕ). slice_set v c.args.spot.link c.from.result) words1 ∙ ap (λ (n : ℕ). slice_set ws1 c.args.spot.link n) c.from.ensures) in
     let bytes : AllByRecursion (λ b. b < 256) c.args.key.now = recursion_from_All (λ b. b < 256) c.args.key.now (All-from_get_or (λ b. b < 256) c.args.key.now 0 (λ i lt. omega (arith, c.type_inv.key i))) in
-    let e' = record c.args.self.now { next_number = c.saturating_add-self.result; count = c.count_after-self.result; standing = c.then-self.result } in
+    let e' = record c.args.self.now { next_number = c.saturating_add-self.result; count = c.count_after-self.result; soonest = c.soonest_with-self.result; standing = c.then-self.result } in
     subst (λ x. Stands e' (g.S.WordsIn.words c.store.new.self) (g.S.WordsIn.aside c.store.new.self) x) (sym c.then-self.ensures)
     (restand {e' = e'} (stands_along (g.S.WordsIn.words c.store.new.self) (g.S.WordsIn.aside c.store.new.self)
-    (link_stands s h c.args.at c.args.key.now (graph_of c.args.content.now) taken c.lower_laws.ensures new_head c.requires.graph (c.requires.short, bytes) (omega (arith, c.ranges.ttl)) refl c.args.spot.at slot c.args.spot.link replaces is (omega (arith, h.from, c.requires.spot.in_chain.low)) link
+    (link_stands s (lowered h c.soonest_with-self.result c.soonest_with-self.ensures.low) c.args.at c.args.key.now (graph_of c.args.content.now) taken c.lower_laws.ensures new_head c.requires.graph (c.requires.short, bytes) (omega (arith, c.ranges.ttl)) refl c.args.spot.at slot c.args.spot.link replaces is (omega (arith, h.from, c.requires.spot.in_chain.low)) link
     (λ some. c.behind_spot.ensures.next some) c.behind_spot.ensures.none
-    c.saturating_add-self.result c.count_after-self.result (omega (arith, c.saturating_add-self.ensures)) c.count_after-self.ensures)
-    words (c.store.ensures.aside ∙ (c.put_entry.ensures.beside.aside ∙ c.behind_spot.ensures.kept.aside))) refl refl refl refl)
+    c.saturating_add-self.result c.count_after-self.result (omega (arith, c.saturating_add-self.ensures)) c.count_after-self.ensures
+    (λ now le. c.soonest_with-self.ensures.unexpired s.conf (stored_row c.args.key.now (graph_of c.args.content.now) c.args.ttl c.args.t c.args.at s.next_number) now h.limit refl refl refl le))
+    words (c.store.ensures.aside ∙ (c.put_entry.ensures.beside.aside ∙ c.behind_spot.ensures.kept.aside))) refl refl refl refl refl refl)

@@ -5,7 +5,7 @@ use Rattle.entry_slots.proofs.RowBlocks.{row_there, room, told_at, home_listed}
 use Rattle.entry_slots.proofs.PresentRows.{HasEntryAt}
 use Rattle.entry_slots.proofs.Chains.{small_after, slot_small}
 use Rattle.entry_slots.proofs.KeySearch.{stands_along}
-use Rattle.entry_slots.proofs.SpotSearch.{Path, chain_short, path_start, path_step, path_next, path_end, path_whole, step_listed, listed_there, spot_here, spot_last}
+use Rattle.entry_slots.proofs.SpotSearch.{Path, chain_short, path_start, path_step, path_next, path_end, path_whole, step_listed, step_row, step_there, listed_there, spot_here, spot_last}
 use Rattle.entry_slots.proofs.slots.EntrySlots.seek.Goals as goal
 
 -- the slot of a key is one of the slots
@@ -34,12 +34,12 @@ key_is-requires g c =
       short = c.requires.short;
     }
 
-pub is_expired-over-requires : goal.is_expired-over-requires
-is_expired-over-requires g c =
+pub is_row_expired-over-requires : goal.is_row_expired-over-requires
+is_row_expired-over-requires g c =
     let s = entries c.args.self.now in
     record {
       stand = stands_along (g.S.WordsIn.words c.key_is.new.seg) (g.S.WordsIn.aside c.key_is.new.seg) c.requires.stand (c.key_is.ensures.kept.words ∙ c.loop-passed.invariant.kept.words) (c.key_is.ensures.kept.aside ∙ c.loop-passed.invariant.kept.aside);
-      there = let step = path_step c.loop-passed.invariant.path c.if-at-eq0.false in listed_there s c.loop-passed.at step.row (step_listed step);
+      there = let step = path_step c.loop-passed.invariant.path c.if-at-eq0.false in step_there step;
       limit = c.requires.limit;
     }
 
@@ -47,9 +47,9 @@ pub next_of-at-requires : goal.next_of-at-requires
 next_of-at-requires g c =
     let s = entries c.args.self.now in
     let step = path_step c.loop-passed.invariant.path c.if-at-eq0.false in
-    let entry : HasEntryAt c.args.self.now (g.S.WordsIn.words c.is_expired-over.new.seg) (g.S.WordsIn.aside c.is_expired-over.new.seg) c.loop-passed.at = record {
+    let entry : HasEntryAt c.args.self.now (g.S.WordsIn.words c.is_row_expired-over.new.seg) (g.S.WordsIn.aside c.is_row_expired-over.new.seg) c.loop-passed.at = record {
       entries = s;
-      stand = stands_along (g.S.WordsIn.words c.is_expired-over.new.seg) (g.S.WordsIn.aside c.is_expired-over.new.seg) c.requires.stand (c.is_expired-over.ensures.kept.words ∙ (c.key_is.ensures.kept.words ∙ c.loop-passed.invariant.kept.words)) (c.is_expired-over.ensures.kept.aside ∙ (c.key_is.ensures.kept.aside ∙ c.loop-passed.invariant.kept.aside));
+      stand = stands_along (g.S.WordsIn.words c.is_row_expired-over.new.seg) (g.S.WordsIn.aside c.is_row_expired-over.new.seg) c.requires.stand (c.is_row_expired-over.ensures.kept.words ∙ (c.key_is.ensures.kept.words ∙ c.loop-passed.invariant.kept.words)) (c.is_row_expired-over.ensures.kept.aside ∙ (c.key_is.ensures.kept.aside ∙ c.loop-passed.invariant.kept.aside));
       there = listed_there s c.loop-passed.at step.row (step_listed step);
     } in
     let r = row_there entry in
@@ -82,10 +82,10 @@ returns-clause-spot g c =
 pub loop-passed-preserved : goal.loop-passed-preserved
 loop-passed-preserved g c =
     let step = path_step c.loop-passed.invariant.path c.if-at-eq0.false in
-    let words = c.is_expired-over.ensures.kept.words ∙ (c.key_is.ensures.kept.words ∙ c.loop-passed.invariant.kept.words) in
+    let words = c.is_row_expired-over.ensures.kept.words ∙ (c.key_is.ensures.kept.words ∙ c.loop-passed.invariant.kept.words) in
     record {
-      path = subst (λ b. Path (g.S.WordsIn.words c.args.seg.now) (entries c.args.self.now) c.args.slot c.args.key.now c.args.t c.next_of-at.result (c.loop-passed.at + 1) (c.loop-passed._passed + 1) b) (sym c.either-stale.ensures) (path_next c.next_of-at.result c.is_expired-over.result step (sym c.if-key_is.false ∙ c.key_is.ensures.is step.row (step_listed step)) (c.is_expired-over.ensures.expired step.row (step_listed step)) (c.next_of-at.ensures.next ∙ ap (λ (w : List ℕ). slice_index w (c.loop-passed.at + 1)) words));
-      kept = record { words = c.next_of-at.ensures.kept.words ∙ words; aside = c.next_of-at.ensures.kept.aside ∙ (c.is_expired-over.ensures.kept.aside ∙ (c.key_is.ensures.kept.aside ∙ c.loop-passed.invariant.kept.aside)); rest = c.next_of-at.ensures.kept.rest ∙ (c.is_expired-over.ensures.kept.rest ∙ (c.key_is.ensures.kept.rest ∙ c.loop-passed.invariant.kept.rest)) };
+      path = subst (λ b. Path (g.S.WordsIn.words c.args.seg.now) (entries c.args.self.now) c.args.slot c.args.key.now c.args.t c.next_of-at.result (c.loop-passed.at + 1) (c.loop-passed._passed + 1) b) (sym c.either-stale.ensures) (path_next c.next_of-at.result c.is_row_expired-over.result step (sym c.if-key_is.false ∙ c.key_is.ensures.is step.row (step_listed step)) (c.is_row_expired-over.ensures.expired step.row (step_row step) (sym step.place)) (c.next_of-at.ensures.next ∙ ap (λ (w : List ℕ). slice_index w (c.loop-passed.at + 1)) words));
+      kept = record { words = c.next_of-at.ensures.kept.words ∙ words; aside = c.next_of-at.ensures.kept.aside ∙ (c.is_row_expired-over.ensures.kept.aside ∙ (c.key_is.ensures.kept.aside ∙ c.loop-passed.invariant.kept.aside)); rest = c.next_of-at.ensures.kept.rest ∙ (c.is_row_expired-over.ensures.kept.rest ∙ (c.key_is.ensures.kept.rest ∙ c.loop-passed.invariant.kept.rest)) };
     }
 
 pub overflow_add-link : goal.overflow_add-link

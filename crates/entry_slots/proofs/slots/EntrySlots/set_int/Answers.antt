@@ -116,4 +116,4 @@ returns-clause-stand g c =
     subst (λ x. Stands e' (g.S.WordsIn.words c.store-2.new.self) (g.S.WordsIn.aside c.store-2.new.self) x) (sym is)
     (restand {e' = e'} (stands_along (g.S.WordsIn.words c.store-2.new.self) (g.S.WordsIn.aside c.store-2.new.self)
     (number_stands c.lower_laws.ensures s h c.args.at i c.args.t c.args.n m.number row there place m.int c.ranges.n (omega (arith, c.words_in.ensures, long)))
-    words (c.store-2.ensures.aside ∙ (c.store.ensures.aside ∙ c.load-len.ensures.aside))) refl refl refl refl)
+    words (c.store-2.ensures.aside ∙ (c.store.ensures.aside ∙ c.load-len.ensures.aside))) refl refl refl refl refl refl)

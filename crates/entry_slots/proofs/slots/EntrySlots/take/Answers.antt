@@ -22,7 +22,7 @@ returns-clause-stand g c =
     let done = take_some c.lower_laws.ensures old (g.S.WordsIn.words c.args.seg.now) (g.S.WordsIn.aside c.args.seg.now) c.args.n c.take.new.self (g.S.WordsIn.words c.take.new.seg) (g.S.WordsIn.aside c.take.new.seg) (Some c.in-Some.at)
     c.requires.size.1 c.in-Some.ensures.place c.in-Some.ensures.taken c.in-Some.ensures.others c.in-Some.ensures.bounds c.in-Some.ensures.beside.aside c.in-Some.ensures.ready (entries old) c.requires.stand in
     subst (λ x. Stands e' (g.S.WordsIn.words c.take.new.seg) (g.S.WordsIn.aside c.take.new.seg) x) (sym c.then-self.ensures)
-    (restand {e' = e'} done refl refl refl refl)
+    (restand {e' = e'} done refl refl refl refl refl refl)
 
 pub returns-clause-none : goal.returns-clause-none
 returns-clause-none c = grind (arith, common_steps)

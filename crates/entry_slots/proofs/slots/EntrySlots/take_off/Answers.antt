@@ -16,7 +16,7 @@ returns-in_default-clause-stand g c =
     let s = entries c.args.self.now in
     let e' = record c.args.self.now { standing = c.then-self.result } in
     subst (λ x. Stands e' (g.S.WordsIn.words c.removed_link.new.seg) (g.S.WordsIn.aside c.removed_link.new.seg) x) (sym c.then-self.ensures)
-    (restand {e' = e'} (stands_along (g.S.WordsIn.words c.removed_link.new.seg) (g.S.WordsIn.aside c.removed_link.new.seg) (off_none s c.requires.stand c.args.at c.in_default.ensures.none.1) c.removed_link.ensures.kept.words c.removed_link.ensures.kept.aside) refl refl refl refl)
+    (restand {e' = e'} (stands_along (g.S.WordsIn.words c.removed_link.new.seg) (g.S.WordsIn.aside c.removed_link.new.seg) (off_none s c.requires.stand c.args.at c.in_default.ensures.none.1) c.removed_link.ensures.kept.words c.removed_link.ensures.kept.aside) refl refl refl refl refl refl)
 
 pub next_of-next-requires : goal.next_of-next-requires
 next_of-next-requires g c =
@@ -65,4 +65,4 @@ returns-clause-stand g c =
     (named_stands c.args.self.now c.name.new.self ws (g.S.WordsIn.words c.name.new.seg) (g.S.WordsIn.aside c.next_of-next.new.seg) c.in-Some.link c.next_of-next.result (off_at c.args.at s) c.name.ensures.head c.name.ensures.word
     (λ none. off_head s h1 c.args.at c.lower_laws.ensures some c.in-Some.link link none c.next_of-next.result next)
     (λ word. off_word s h1 c.args.at c.lower_laws.ensures some c.in-Some.link link word c.next_of-next.result next))
-    refl c.name.ensures.beside.aside) refl refl refl refl)
+    refl c.name.ensures.beside.aside) refl refl refl refl refl refl)

@@ -72,7 +72,7 @@ append-requires g c =
     let e' = record c.args.self.now { standing = c.then-self.result } in
     record {
       stand = subst (λ x. Stands e' (g.S.WordsIn.words c.store-2.new.self) (g.S.WordsIn.aside c.store-2.new.self) x) (sym c.then-self.ensures)
-          (restand {e' = e'} (stands_along (g.S.WordsIn.words c.store-2.new.self) (g.S.WordsIn.aside c.store-2.new.self) b.0 words (c.store-2.ensures.aside ∙ c.store.ensures.aside)) refl refl refl refl);
+          (restand {e' = e'} (stands_along (g.S.WordsIn.words c.store-2.new.self) (g.S.WordsIn.aside c.store-2.new.self) b.0 words (c.store-2.ensures.aside ∙ c.store.ensures.aside)) refl refl refl refl refl refl);
       there = rw c.then-self.ensures b.1;
       alone = ap (λ (v : List ℕ). slice_index v (c.args.at + 1)) words ∙ b.2;
     }

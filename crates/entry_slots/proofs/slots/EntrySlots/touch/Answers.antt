@@ -1,4 +1,5 @@
 use Rattle.std.proofs.Common.{◌≡◌, ℕ, ◌+◌, List, ap, sym, subst, refl, ◌∙◌, arith, length, slice_set}
+use Rattle.std.specs.Prelude.{nat_lt, ◌&&◌, false}
 use Rattle.std.proofs.lemmas.List.{length-set}
 use Rattle.entry_slots.proofs.Runs.{may_store_set}
 use Rattle.entry_slots.proofs.RowBlocks.{room, told_at}
@@ -7,6 +8,7 @@ use Rattle.entry_slots.proofs.StorableWords.{may_date, may_along}
 use Rattle.entry_slots.proofs.TouchedRows.{row_at, touched_words, touch_stands}
 use Rattle.entry_slots.specs.Standing.{Stands, entries}
 use Rattle.entry_slots.proofs.GhostEntries.{restand}
+use Rattle.entry_slots.proofs.UnexpiredRows.{lowered}
 use Rattle.entry_slots.proofs.KeySearch.{stands_along}
 use Rattle.entry_slots.proofs.slots.EntrySlots.touch.Goals as goal
 
@@ -53,7 +55,8 @@ returns-clause-stand g c =
     let read = c.load-hits.ensures.word (told_at r.1 c.args.at 9 r.2 (omega arith) (omega arith)) in
     let words : g.S.WordsIn.words c.store-2.new.self ≡ touched_words ws c.args.at c.saturating_add.result c.args.t =
     c.store-2.ensures.words ∙ ap (λ (v : List ℕ). slice_set v (c.args.at + 7) c.args.t) (c.store.ensures.words ∙ ap (λ (v : List ℕ). slice_set v (c.args.at + 9) c.saturating_add.result) c.load-hits.ensures.words) in
-    subst (λ x. Stands (record c.args.self.now { standing = c.then-self.result }) (g.S.WordsIn.words c.store-2.new.self) (g.S.WordsIn.aside c.store-2.new.self) x) (sym c.then-self.ensures)
-    (restand {e' = record c.args.self.now { standing = c.then-self.result }} (stands_along (g.S.WordsIn.words c.store-2.new.self) (g.S.WordsIn.aside c.store-2.new.self)
-    (touch_stands c.lower_laws.ensures s c.args.at c.saturating_add.result c.args.t h c.requires.there (omega (arith, read, c.saturating_add.ensures)))
-    words (c.store-2.ensures.aside ∙ (c.store.ensures.aside ∙ c.load-hits.ensures.aside))) refl refl refl refl)
+    subst (λ x. Stands (record c.args.self.now { soonest = c.passes_after-self.result; standing = c.then-self.result }) (g.S.WordsIn.words c.store-2.new.self) (g.S.WordsIn.aside c.store-2.new.self) x) (sym c.then-self.ensures)
+    (restand {e' = record c.args.self.now { soonest = c.passes_after-self.result; standing = c.then-self.result }} (stands_along (g.S.WordsIn.words c.store-2.new.self) (g.S.WordsIn.aside c.store-2.new.self)
+    (touch_stands c.lower_laws.ensures s c.args.at c.saturating_add.result c.args.t (lowered h c.passes_after-self.result c.passes_after-self.ensures.low) c.requires.there (omega (arith, read, c.saturating_add.ensures))
+    (λ now le. subst (λ (n : ℕ). (nat_lt 0 n && nat_lt (c.args.t + n) now) ≡ false) (c.from.ensures ∙ h.limit) (c.passes_after-self.ensures.unpassed now le)))
+    words (c.store-2.ensures.aside ∙ (c.store.ensures.aside ∙ c.load-hits.ensures.aside))) refl refl refl refl refl refl)

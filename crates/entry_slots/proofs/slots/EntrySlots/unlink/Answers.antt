@@ -5,6 +5,7 @@ use Rattle.entry_slots.specs.Entries.{Entries, chain_of}
 use Rattle.entry_slots.proofs.RowBlocks.{room, home_row}
 use Rattle.entry_slots.specs.Standing.{Stands, entries}
 use Rattle.entry_slots.proofs.GhostEntries.{restand}
+use Rattle.entry_slots.proofs.UnexpiredRows.{emptied}
 use Rattle.entry_slots.proofs.KeySearch.{stands_along}
 use Rattle.entry_slots.proofs.StorableWords.{may_along}
 use Rattle.entry_slots.proofs.ChainCuts.{spot_word}
@@ -74,8 +75,8 @@ returns-clause-stand g c =
     let next : c.behind-next.result ≡ slice_index (g.S.WordsIn.words c.slot_at-slot.new.seg) (c.args.at + 1) = c.behind-next.ensures.next some ∙ ap (λ (v : List ℕ). slice_index v (c.args.at + 1)) c.link_to-link.ensures.kept.words in
     let words : g.S.WordsIn.words c.store.new.self ≡ slice_set (g.S.WordsIn.words c.slot_at-slot.new.seg) c.link_to-link.result c.behind-next.result =
     c.store.ensures.words ∙ (ap (λ (v : List ℕ). slice_set v c.link_to-link.result c.from.result) (c.behind-next.ensures.kept.words ∙ c.link_to-link.ensures.kept.words) ∙ ap (λ (n : ℕ). slice_set (g.S.WordsIn.words c.slot_at-slot.new.seg) c.link_to-link.result n) c.from.ensures) in
-    let e' = record c.args.self.now { count = c.args.self.now.count - 1; standing = c.then-self.result } in
+    let e' = record c.args.self.now { count = c.args.self.now.count - 1; soonest = c.soonest_after-self.result; standing = c.then-self.result } in
     subst (λ x. Stands e' (g.S.WordsIn.words c.store.new.self) (g.S.WordsIn.aside c.store.new.self) x) (sym c.then-self.ensures)
     (restand {e' = e'} (stands_along (g.S.WordsIn.words c.store.new.self) (g.S.WordsIn.aside c.store.new.self)
-    (unlink_stands c.lower_laws.ensures s h1 c.args.at slot c.link_to-link.result c.behind-next.result c.slot_at-slot.ensures.low chain link next (c.args.self.now.count - 1) (omega (arith, h.count, r.1.1)))
-    words (c.store.ensures.aside ∙ (c.behind-next.ensures.kept.aside ∙ c.link_to-link.ensures.kept.aside))) refl refl refl refl)
+    (emptied (unlink_stands c.lower_laws.ensures s h1 c.args.at slot c.link_to-link.result c.behind-next.result c.slot_at-slot.ensures.low chain link next (c.args.self.now.count - 1) (omega (arith, h.count, r.1.1))) c.soonest_after-self.result c.soonest_after-self.ensures.some)
+    words (c.store.ensures.aside ∙ (c.behind-next.ensures.kept.aside ∙ c.link_to-link.ensures.kept.aside))) refl refl refl refl refl refl)

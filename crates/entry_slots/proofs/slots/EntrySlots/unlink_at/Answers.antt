@@ -2,6 +2,7 @@ use Rattle.std.proofs.Common.{◌≡◌, ◌≢◌, inr, ℕ, ◌-◌, List, sym
 use Rattle.entry_slots.proofs.RowBlocks.{room, home_row}
 use Rattle.entry_slots.specs.Standing.{Stands, entries}
 use Rattle.entry_slots.proofs.GhostEntries.{restand}
+use Rattle.entry_slots.proofs.UnexpiredRows.{emptied}
 use Rattle.entry_slots.proofs.KeySearch.{stands_along}
 use Rattle.entry_slots.proofs.StorableWords.{may_along}
 use Rattle.entry_slots.proofs.ChainCuts.{spot_word}
@@ -43,8 +44,8 @@ returns-clause-stand g c =
     let some : c.args.spot.at ≢ 0 = λ q. omega (arith, home.some, r.2) in
     let words : g.S.WordsIn.words c.store.new.self ≡ slice_set ws c.args.spot.link c.behind_spot-next.result =
     c.store.ensures.words ∙ (ap (λ (v : List ℕ). slice_set v c.args.spot.link c.from.result) c.behind_spot-next.ensures.kept.words ∙ ap (λ (n : ℕ). slice_set ws c.args.spot.link n) c.from.ensures) in
-    let e' = record c.args.self.now { count = c.args.self.now.count - 1; standing = c.then-self.result } in
+    let e' = record c.args.self.now { count = c.args.self.now.count - 1; soonest = c.soonest_after-self.result; standing = c.then-self.result } in
     subst (λ x. Stands e' (g.S.WordsIn.words c.store.new.self) (g.S.WordsIn.aside c.store.new.self) x) (sym c.then-self.ensures)
     (restand {e' = e'} (stands_along (g.S.WordsIn.words c.store.new.self) (g.S.WordsIn.aside c.store.new.self)
-    (unlink_stands c.lower_laws.ensures s h c.args.spot.at c.args.spot.slot c.args.spot.link c.behind_spot-next.result (omega (arith, h.from, p.low)) (spot_there c.args.spot p some) link (c.behind_spot-next.ensures.next some) (c.args.self.now.count - 1) (omega (arith, h.count, r.1.1)))
-    words (c.store.ensures.aside ∙ c.behind_spot-next.ensures.kept.aside)) refl refl refl refl)
+    (emptied (unlink_stands c.lower_laws.ensures s h c.args.spot.at c.args.spot.slot c.args.spot.link c.behind_spot-next.result (omega (arith, h.from, p.low)) (spot_there c.args.spot p some) link (c.behind_spot-next.ensures.next some) (c.args.self.now.count - 1) (omega (arith, h.count, r.1.1))) c.soonest_after-self.result c.soonest_after-self.ensures.some)
+    words (c.store.ensures.aside ∙ c.behind_spot-next.ensures.kept.aside)) refl refl refl refl refl refl)
