@@ -45,7 +45,7 @@ pub enum Reason {
     /// A line that begins with no known word.
     #[error("line")]
     Line,
-    /// Neither a space nor a line feed where one is expected.
+    /// Neither a space nor a line feed, one of which is expected.
     #[error("separator")]
     Separator,
     /// An argument too many, or one of the wrong kind or range, or a missing one.
@@ -71,7 +71,7 @@ pub enum ReadFault {
     Memory,
 }
 
-/// The first fault, and how many bytes are left from where it is: a reader of a part of the bytes
+/// The first fault, and how many bytes are left from its place on: a reader of a part of the bytes
 /// sees none before it, so it cannot give a place among all.
 #[derive(Clone, Copy, Debug)]
 pub struct Fault {
