@@ -31,29 +31,7 @@ text = "\n".join(line.strip() for line in open(sys.argv[2], encoding="utf-8"))
 sys.exit(sys.argv[1] not in text)' "$lines" "$file" || tell "README.md shows otherwise than $file: $from"
 }
 
-# Links and paths of all pages, but for what is built.
-lead_to_files() {
-    python3 - <<'PYTHON'
-import glob, os, re, sys
-
-LINK = re.compile(r"\]\(([^)#:\s]+)(?:#[^)]*)?\)")
-PATH = re.compile(r"`((?:bench|capi|checks|crates|docs|examples|php)/[\w./-]*)")
-lost = 0
-for page in sorted(glob.glob("**/*.md", recursive=True)):
-    if page == "docs/differences/page.md":
-        continue
-    text, folder = open(page, encoding="utf-8").read(), os.path.dirname(page)
-    named = [(link, os.path.join(folder, link)) for link in LINK.findall(text)]
-    named += [(path, path) for path in PATH.findall(text) if not re.search("NAME|/out/|/modules/", path)]
-    for name, path in named:
-        if not os.path.exists(path):
-            print(f"{page}: there is no {name}", file=sys.stderr)
-            lost = 1
-sys.exit(lost)
-PYTHON
-}
-
-lead_to_files || others=1
+python3 checks/links.py || others=1
 python3 checks/words.py || others=1
 for page in claims reading crates differences; do
     bash "docs/$page.sh" --check || others=1
