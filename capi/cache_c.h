@@ -84,7 +84,7 @@ size_t cache_size(void);
 static inline uint32_t cache_new(const cache_shape *shape, uint8_t *at);
 
 /* What is asked. Each is one event of the cache. */
-enum {
+enum cache_event {
     CACHE_STORE,  /* apcu_store: key, value, ttl */
     CACHE_ADD,    /* apcu_add: the same, but never over a live row */
     CACHE_LOOK,   /* apcu_fetch: key; counts a hit or a miss */

@@ -2,9 +2,10 @@
 # SPDX-License-Identifier: MIT
 # That the pages are right: links, and paths of this repository in backquotes, lead to files; CLAIMS, READING, the
 # tables of ARCHITECTURE, and DIFFERENCES are what their scripts write; the clause that README shows is in the sources; no
-# file has more words of checks/words.py's list than it may keep; the commands of the pages of examples/, which show the
-# programs in Rust, print what they say; and each case of DIFFERENCES prints on both sides what its folder says. With
-# --written only what needs neither a program nor PHP is checked.
+# file has more words of checks/words.py's list than it may keep; capi/cache_c.h says of the library what it is
+# (checks/header.py); the commands of the pages of examples/, which show the programs in Rust, print what they say; and
+# each case of DIFFERENCES prints on both sides what its folder says. With --written only what needs neither a program
+# nor PHP is checked.
 # Usage: checks/pages.sh [--written | PROGRAM]; without --written it needs php with apcu and pcntl.
 set -u
 is_written=''
@@ -31,30 +32,9 @@ text = "\n".join(line.strip() for line in open(sys.argv[2], encoding="utf-8"))
 sys.exit(sys.argv[1] not in text)' "$lines" "$file" || tell "README.md shows otherwise than $file: $from"
 }
 
-# Links and paths of all pages, but for what is built.
-lead_to_files() {
-    python3 - <<'PYTHON'
-import glob, os, re, sys
-
-LINK = re.compile(r"\]\(([^)#:\s]+)(?:#[^)]*)?\)")
-PATH = re.compile(r"`((?:bench|capi|checks|crates|docs|examples|php)/[\w./-]*)")
-lost = 0
-for page in sorted(glob.glob("**/*.md", recursive=True)):
-    if page == "docs/differences/page.md":
-        continue
-    text, folder = open(page, encoding="utf-8").read(), os.path.dirname(page)
-    named = [(link, os.path.join(folder, link)) for link in LINK.findall(text)]
-    named += [(path, path) for path in PATH.findall(text) if not re.search("NAME|/out/|/modules/", path)]
-    for name, path in named:
-        if not os.path.exists(path):
-            print(f"{page}: there is no {name}", file=sys.stderr)
-            lost = 1
-sys.exit(lost)
-PYTHON
-}
-
-lead_to_files || others=1
+python3 checks/links.py || others=1
 python3 checks/words.py || others=1
+python3 checks/header.py || others=1
 for page in claims reading crates differences; do
     bash "docs/$page.sh" --check || others=1
 done

@@ -232,25 +232,49 @@ static bool is_full(size_t more)
 	return most != 0 && more > most - (appended()->end < most ? appended()->end : most);
 }
 
+/* Each kind has a case, so one that cache_c.h gains does not compile until it is decided here what of it is
+ * recorded. */
+#pragma GCC diagnostic push
+#pragma GCC diagnostic error "-Wswitch"
+
 static record_event event_of(const cache_request *request, size_t key_len, size_t len, const cache_answer *answer)
 {
-	bool is_store = request->kind == CACHE_STORE || request->kind == CACHE_ADD;
 	record_event e = {
 		.t = request->t,
-		.number = is_store && request->value == CACHE_STR ? len : request->number,
-		.set = request->kind == CACHE_SWAP ? request->set : request->ttl,
+		.number = request->number,
+		.set = request->ttl,
 		.answer = answer->kind == CACHE_STR ? answer->len
 			: answer->kind == CACHE_INT || answer->kind == CACHE_BOOL ? (uint64_t) answer->number : 0,
 		.event = (uint32_t) appended()->events,
 		.process = (uint32_t) process,
-		.key_len = request->kind == CACHE_CLEAR ? 0 : (uint32_t) key_len,
+		.key_len = (uint32_t) key_len,
 		.kind = (uint8_t) request->kind,
-		.value = is_store ? (uint8_t) request->value : 0,
 		.reply = (uint8_t) answer->kind
 	};
 
+	switch ((enum cache_event) request->kind) {
+		case CACHE_STORE:
+		case CACHE_ADD:
+			e.value = (uint8_t) request->value;
+			e.number = request->value == CACHE_STR ? len : request->number;
+			break;
+		case CACHE_SWAP:
+			e.set = request->set;
+			break;
+		case CACHE_CLEAR:
+			e.key_len = 0;
+			break;
+		case CACHE_LOOK:
+		case CACHE_EXISTS:
+		case CACHE_DELETE:
+		case CACHE_COUNT:
+		case CACHE_HOLD:
+			break;
+	}
 	return e;
 }
+
+#pragma GCC diagnostic pop
 
 bool apcu_record_note(const cache_request *request, const zend_string *key, const char *bytes, size_t len,
 	const cache_answer *answer)
