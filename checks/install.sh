@@ -106,6 +106,11 @@ by_line() {
     write_c mine.c
     eval "$(shown capi/README.md 'cc -Icapi mine') -o $scratch/mine" && [ "$("$scratch/mine")" = "6 $(version)" ]
 }
+# The program that the page shows: parent and child print what either stored.
+by_example() {
+    sed -n '/^    #include "shared_cache/,/^    }$/s/^    //p' capi/README.md >mine.c
+    eval "$(shown capi/README.md 'cc -Icapi mine') -o $scratch/example" && [ "$("$scratch/example")" = $'hello\nhello' ]
+}
 version() { sed -n 's/^#define CACHE_C_VERSION "\(.*\)"$/\1/p' capi/cache_c.h; }
 by_pkg_config() {
     local version
@@ -150,6 +155,7 @@ try 'configure refuses another processor' other_processor
 if has pecl; then try 'pecl package, and a build of it' pecl_package; fi
 if has composer; then try 'composer.json' composer_json; fi
 try 'C in one line' by_line
+try "capi/README's program prints hello twice" by_example
 if has pkg-config; then try 'C by make install and pkg-config' by_pkg_config; fi
 if has aarch64-linux-gnu-gcc qemu-aarch64; then
     try 'C for aarch64, under an emulator' aarch64

@@ -36,13 +36,40 @@ STOP = [
     (r"\b(?:is|are) made anew\b", "is recreated"),
     (r"\bin (?:his|her) place\b", "instead"),
 ]
-STOP = [(re.compile(word, re.IGNORECASE if word[0] == "\\" else 0), better) for word, better in STOP]
+# Refused in pages alone, until comments and messages are without them.
+IN_PAGES = [
+    (r"\b(?:tells?|telling)\b", "prints, reports, returns, shows"),
+    (r"\b(?:stands?|stood|standing)\b", "is, represents, depends on"),
+    (r"\bbehind (?!nginx)(?:the|it|them|that|each|its|one|a|an|another|there)\b", "after"),
+    (r"\bin place of\b", "instead of"),
+    (r"\btakes? the places? of\b(?! the old one)", "replaces"),
+    (r"\| without it \|", "default"),
+    (r"\b(?:he|his|him|himself|somebody|everybody|anybody)\b", "the process, the caller"),
+    (r"\blook(?:s|ing)? for null\b", "check for null"),
+    (r"\b(?:goes|go|going|went|gone) on\b", "continues"),
+    (r"\bwhat (?:comes|came|becomes|became) of\b", "the result of"),
+    (r"\bhand(?:s|ed|ing)? (?:in|out|on|over)\b", "pass, return"),
+    (r"\b(?:it|that|which|rows?|keys?|they|values?|one) (?:is|are|was|were) (?:not )?there\b", "exists"),
+    (r"\bin one another\b", "nested"),
+    (r"\bwant of memory\b", "out of memory"),
+    (r"\bby the clock\b", "wall time"),
+    (r"(?:^|[.;:] )Who\b", "a process that, the caller"),
+]
+
+
+def compiled(words):
+    return [(re.compile(word, re.IGNORECASE if word[0] == "\\" else 0), better) for word, better in words]
+
+
+STOP, IN_PAGES = compiled(STOP), compiled(IN_PAGES)
+# What docs/crates.sh and docs/reading.sh copy from comments into pages is counted where it is written.
+COPIED = {"docs/ARCHITECTURE.md": "| `", "docs/READING.md": "- [`"}
 
 LINE_COMMENT = {".rt": "//", ".c": "//", ".h": "//", ".php": "//", ".sh": "#", ".py": "#"}
 MESSAGE = re.compile(r"\b(?:echo|printf|say|tell|fprintf|php_error_docref|php_log_err|zend_throw\w*|print|fwrite|die|exit)\b(.*)")
 STRING = re.compile(r"\"((?:[^\"\\]|\\.)*)\"|'((?:[^'\\]|\\.)*)'")
-# Words of code, not of prose: what stands between backquotes.
-CODE = re.compile(r"`[^`]*`")
+# Words of code, not of prose: between backquotes, and the target of a link.
+CODE = re.compile(r"`[^`]*`|(?<=\])\([^)]*\)")
 
 
 def files(named):
@@ -74,7 +101,8 @@ def prose(path, kind):
         if kind == "page":
             if line.startswith("```"):
                 is_code = not is_code
-            if not is_code and not line.startswith("    "):
+            is_copied = path in COPIED and line.startswith(COPIED[path])
+            if not is_code and not is_copied and not line.startswith("    "):
                 yield number, CODE.sub("``", line)
             continue
         text = []
@@ -101,7 +129,7 @@ def prose(path, kind):
 
 def hits(path, kind):
     for number, text in prose(path, kind):
-        for word, better in STOP:
+        for word, better in STOP + (IN_PAGES if kind == "page" else []):
             for found in word.finditer(text):
                 yield number, found[0].strip(" .;:"), better
 

@@ -1,8 +1,7 @@
 #!/usr/bin/env python3
 """Writes the coverage and the lists of CLAIMS.md, between its two marks, from the rows of claims.txt and the lines
-'clause:' of the edits. It writes nothing and ends with status 1 if a row names a clause or a test that is not there, or
-if an edit names no clause, or one that is in no row, or if crates.txt has another number of functions that may wait than
-there are.
+'clause:' of the edits. It writes nothing and ends with status 1 if a row names a clause or a test that does not exist, or
+if an edit names no clause, or one that is in no row, or if crates.txt has a wrong number of functions that may wait.
 """
 import glob, os, re, sys
 
@@ -103,7 +102,7 @@ class Source:
         return {field for name in seen for field in re.findall(r"^ +pub (\w+) :", self.definitions[name], re.M)}
 
     def has_clause(self, path, label):
-        """A label, and behind a dot a field of what the clause says; of a clause without a label a field alone."""
+        """A label, and after a dot a field of what the clause says; of a clause without a label only a field."""
         clauses = self.clauses(path)
         first, *rest = label.split(".")
         if first not in clauses:
@@ -187,7 +186,7 @@ def check(tables, edits, source):
         if not row["clause"]:
             faults.append(f"claims.txt: no clause: {row['promise']}")
         faults.extend(f"claims.txt: no test {test}: {row['promise']}" for test in row["test"] if not source.has_test(test))
-        faults.extend(f"claims.txt: no row has the clause {key}, which is said to be alike: {row['promise']}"
+        faults.extend(f"claims.txt: no row has the clause {key}, which is listed as alike: {row['promise']}"
                       for clauses in row["alike"] for key in clauses.keys if key not in known)
 
 
@@ -200,9 +199,9 @@ def ledger():
     tried = [line for line in lines if re.match(r"\w+/\w+ refused", line)]
     named = [line for line in tried if "only since a proof names" in line]
     owed = [re.match(r"(\w+) .* edits=(\d+) untried$", line) for line in lines if line.endswith(" untried")]
-    said = f"Tried on the text as it is, and refused: {len(tried)} (`checks/edits.txt`), of which {len(named)} only because a proof names what the edit removes."
+    said = f"Tried on the current text, and refused: {len(tried)} (`checks/edits.txt`), of which {len(named)} only because a proof names what the edit removes."
     if owed:
-        said += f" Still to be tried: {sum(int(it[2]) for it in owed)}, of {len(owed)} crates, which `checks/edits.sh --check` lists."
+        said += f" Not tried yet: {sum(int(it[2]) for it in owed)}, of {len(owed)} crates, which `checks/edits.sh --check` lists."
     return said
 
 
@@ -279,9 +278,9 @@ def coverage(tables, edits, waiting):
     many = len(glob.glob("crates/*/more-edits/*.edit"))
     return f"""## Coverage
 
-- Rows: {len(rows)}. With an edit of their own {own}, with one that is alike alone {alike}, with none {len(none)}.
+- Rows: {len(rows)}, of which {own} have an edit of their own, {alike} only edits that are alike, and {len(none)} none.
 - Rows without a test: {len(untested)}, of which {bare} have no edit either.
-- Edits: {many}. Of these {len(of_statements())} change a clause of a law, a definition or a constant, and no body.
+- Edits: {many}, of which {len(of_statements())} change a clause of a law, a definition or a constant, and no body.
 - {ledger()}
 - Functions that may wait for a lock or a thread, and so have the bound `Wait`: {wait}. All others return.
 {waits}

@@ -1,6 +1,6 @@
 #!/usr/bin/env python3
 """Writes the table and lists of crates of ARCHITECTURE.md, between its two marks: what each crate is, by the first sentence
-of its own comment, what it stands on, by crates.txt, and the functions that carry it, by the lines 'carries:' of claims.txt;
+of its own comment, what it depends on, by crates.txt, and its main functions, by the lines 'carries:' of claims.txt;
 and whose proofs cite lemmas out of the proofs of a lower crate, by their imports.
 """
 import glob, os, re
@@ -33,7 +33,7 @@ def all_below(name):
 
 
 def stands_on(name):
-    """The crates that it stands on, without those on which another one of them stands."""
+    """The crates that it depends on, without those on which another one of them depends."""
     under = set().union(*(all_below(each) for each in below[name]))
     return ", ".join(f"`{each}`" for each in below[name] if each not in under)
 
@@ -50,7 +50,7 @@ def about(name):
 
 
 def functions(name):
-    """The functions that carry the crate."""
+    """The main functions of the crate."""
     return ", ".join(f"`{function}`" for function in carried.get(name, [])) or "none"
 
 
@@ -69,10 +69,10 @@ rows = "".join(f"| `{name}` | {about(name)} | {stands_on(name)} | {functions(nam
 tests = "".join(f"- `{name}`: {stands_on(name)}\n" for name in below if name.endswith("_tests"))
 proofs = "".join(f"- `{name}`: {cited(name)}\n" for name in below if cited(name))
 text = f"""\
-| crate | what it is | stands on | functions that carry it |
+| crate | contents | depends on | main functions |
 |---|---|---|---|
 {rows}
-Crates of tests, and what they stand on:
+Crates of tests, and what they depend on:
 
 {tests}
 Crates whose proofs cite proofs of lower ones, and which:

@@ -1,16 +1,16 @@
 #!/usr/bin/env python3
-"""Writes READING.md: the definitions that the clauses of `run` rest on, first those of an hour, then the others by subject.
-It follows the imports word by word, from the clauses through the definitions that they cite, and the words of Rattle's
-kit through the kit. What the page says of a kit that is not the one here stays as it is.
+"""Writes READING.md: the definitions that the clauses of `run` and of the library for C rest on, first those of an hour,
+then the others by subject. It follows the imports word by word, from the clauses through the definitions that they cite,
+and the words of Rattle's kit through the kit. What the page says of another kit than the one here is kept.
 """
 import glob, os, re, shutil, sys
 
 import written
 
 CRATE, FUNCTION, MAIN = "apcu_play", "run", "replayed"
-# The definitions by which that clause comes to what it says of a part of the program alone.
+# The definitions by which that clause reaches what it says only of a part of the program.
 PARTS = {"AnswersSeed": "generated runs", "AnswersOutput": "verdicts", "map_text_after": "maps"}
-# What is read in an hour: a file, and of the two that serve all tasks the definitions alone that are named.
+# What is read in an hour: a file, and of the two that serve all tasks only the definitions that are named.
 SPINE = [
     ("apcu_play/Run", "a text was written whole", ["WritesAll", "Replays"]),
     ("apcu_play/Tasks", "what is printed for the input's scripts", ["WasRead", "played_text", "AnswersInput", "AnswersTask"]),
@@ -136,7 +136,7 @@ class Reading:
         return self.files[path]
 
     def target(self, module, word):
-        """Where a word of a module stands: a file of specs/ with the word in it, a type of src/, or the kit."""
+        """The definition of a word of a module: a file of specs/ with the word in it, a type of src/, or the kit."""
         crate, _, rest = module.partition(".")
         kind, _, inner = rest.partition(".")
         if not os.path.isdir(f"crates/{crate}") or kind != "specs":
@@ -154,7 +154,7 @@ class Reading:
 
     @staticmethod
     def source_of(crate, names):
-        """The file of src/ that a declared type stands in: its modules, and then its name."""
+        """The file of src/ with a declared type: its modules, and then its name."""
         for count in range(len(names), 0, -1):
             for path in (f"crates/{crate}/src/{'/'.join(names[:count])}.rt", f"crates/{crate}/src/{names[count - 1]}.rt"):
                 if os.path.isfile(path):
@@ -162,7 +162,7 @@ class Reading:
         return f"crates/{crate}/src/lib.rt"
 
     def cited(self, file, part):
-        """What a definition, or a clause, cites: words that stand elsewhere or in its own file."""
+        """What a definition, or a clause, cites: words of other files or of its own."""
         names = {name for name in file.parts if name in part.words or has_signs(name, part.text)}
         targets = [(file, name) for name in file.parts if name in names]
         for name, (module, old) in file.imports.items():
@@ -187,7 +187,7 @@ class Reading:
 
 
 def has_signs(name, text):
-    """An operator is there where all its signs are."""
+    """An operator is cited if all its signs are."""
     return "◌" in name and all(sign in text for sign in name.split("◌") if sign)
 
 
@@ -227,7 +227,7 @@ def crate_of(path):
 # ---- the kit
 
 def kit_at():
-    """Where Rattle's kit is, and its name; nothing where it is not on the path."""
+    """The path of Rattle's kit, and its name; None if it is not on the path."""
     program = shutil.which("rt")
     top = os.path.dirname(os.path.dirname(os.path.realpath(program))) if program else ""
     if not os.path.isfile(f"{top}/KIT-ID"):
@@ -236,7 +236,7 @@ def kit_at():
 
 
 class Kit:
-    """The kit's definitions that some words of it reach. What they rest on outside of its crates is not followed."""
+    """The kit's definitions that some words of it reach. What they cite outside of its crates is not followed."""
 
     def __init__(self, top):
         self.top, self.files, self.words = top, {}, {}
@@ -279,7 +279,7 @@ class Kit:
 
 
 def kit_part(reading, old):
-    """What the page says of the kit: as it says already, where the kit that it names is not here."""
+    """What the page says of the kit: unchanged, if the kit that it names is not here."""
     top, name = kit_at()
     before = re.search(r"^## The kit\n.*", old, re.M | re.S)
     named = re.search(r"`(rattle-kit-\w+)`", before.group()) if before else None
@@ -296,7 +296,7 @@ def kit_part(reading, old):
     listed = [f"`{crate}` {lines:,}" for crate, lines in sorted(by_crate.items(), key=lambda item: -item[1])]
     return f"""## The kit
 
-Below these are definitions of the kit. In `{name}` the clauses reach {count:,} of them: \
+These definitions cite those of the kit. In `{name}` the clauses reach {count:,} of them: \
 {sum(by_crate.values()):,} lines in {few(len(kit.words), "file")}. By crate: {", ".join(listed)}. The kit's logic, \
 with numbers, lists and paths, is not counted.
 """
@@ -418,13 +418,18 @@ def page(old):
     typed = "".join(f"- `{crate}`: {', '.join(files)}\n" for crate, files in types.items())
     return f"""# What to read
 
-What the clauses of `{CRATE}::{FUNCTION}` promise rests on definitions. The clause `{MAIN}`, of what is printed, reaches \
-{lines_of(main, own):,} lines of them in {len(own)} files; all clauses reach {lines_of(reading, all_of):,} in \
-{len(all_of)}. Of the first, {", ".join(alone[:-1])} and {alone[-1]} serve these alone: what a play of the input's scripts \
-prints without a map rests on {lines_of(played, own_played):,} lines in {len(own_played)} files.
+There are two promises, and each rests on definitions:
 
-Read *An hour*, then by need: `{MAIN}` alone reaches the files without a star. `docs/reading.sh` writes this \
-page, by the imports of the definitions that a clause reaches. Its lines of a definition are with the comment before it.
+- **The program's**: the clauses of `{CRATE}::{FUNCTION}`, which has no `requires`. The clause `{MAIN}`, about what is printed, \
+has two premises: the arguments ask for a cache, and the run ended with `Done`. It applies to a source and a sink whose \
+contracts name their bytes, and reaches {lines_of(main, own):,} lines of definitions in {len(own)} files; all clauses reach \
+{lines_of(reading, all_of):,} in {len(all_of)}. Of the first, {", ".join(alone[:-1])} and {alone[-1]} serve only these: what \
+a play of the input's scripts prints without a map rests on {lines_of(played, own_played):,} lines in {len(own_played)} files.
+- **The library's**: the clauses of each exported function of `crates/cache_c`. Their premise (`requires*`) is that the call owns \
+the cache that `cache_new` made, and its arguments; so calls must be serialized.
+
+Read *An hour* or *The library for C*, then *By need*. `docs/reading.sh` generates this page from the imports of the \
+definitions that a clause reaches. Line counts include the comment above a definition.
 
 ## How to read a definition
 
@@ -432,51 +437,51 @@ page, by the imports of the definitions that a clause reaches. Its lines of a de
 `¬` *not*, and `≡` *equals*.
 - `(x : A) × P`: there is an x with P.
 - `Unit {{0}}` is always true, and `⊥` never.
-- What ends in `Type 0` is a statement. What ends in `Bool`, `ℕ`, `List` .. is computed; `IsTrue b` says that `b` is `true`.
+- A definition whose type ends in `Type 0` is a statement; one that ends in `Bool`, `ℕ`, `List` .. is computed. `IsTrue b` says that `b` is `true`.
 - `record` has named fields; as a statement it holds if each field does. `x.f` is a field, `p.0` a pair's first part, and \
 `record x {{ f = e }}` is `x` with another `f`.
-- `data` lists a value's forms. `abbrev` and `unfoldable` name what is right of `=`. Of several lines the first \
-that fits counts; `_` fits all.
-- `[]` is the empty list, `x ∷ xs` puts x in front, `++` joins. `λ x. e` is the function of x.
+- `data` lists the constructors of a type. `abbrev` and `unfoldable` name what is right of `=`. Of several lines the first \
+that matches counts; `_` matches all.
+- `[]` is the empty list, `x ∷ xs` prepends x, `++` concatenates. `λ x. e` is a function of x.
 - `Option` is `None` or `Some x`. `IfSome o (λ s. P)`: if `o` is `Some s`, then P.
-- Bytes, places and seconds are `ℕ`; a text is a list of bytes; `codes "a"` is a literal's.
-- In a clause `x.now` is what a reference points to; of a `&mut`, `x.old` is before the call and `x.new` after it. `S.left` \
-is what a source has left, `K.held` what a sink holds.
+- Bytes, places and seconds are `ℕ`; a text is a list of bytes; `codes "a"` is that of a literal.
+- In a clause `x.now` is the referent of a reference; of a `&mut`, `x.old` is before the call and `x.new` after it. `S.left` \
+is what a source has left, `K.held` what a sink holds; `None` if its contract does not name them.
 
-The kit's `ANTT.md` and `CONTRACTS.md` have the rest; [GLOSSARY.md](GLOSSARY.md) has this project's words.
+The kit's `ANTT.md` and `CONTRACTS.md` have the rest; [GLOSSARY.md](GLOSSARY.md) defines this project's terms.
 
 ## An hour
 
-{total} lines, from the promise down.
+{total} lines, from the program's promise down.
 
-| file | lines | what they say |
+| file | lines | contents |
 |---|---|---|
 {rows}
 ## The library for C
 
 `{CALL}` is the call by which C asks for an event. Its clauses rest on {reached:,} lines in {few(reached_files, "file")}: \
-the {library_total} of this table first, and then the files of *An hour* from `apcu_model/History` on. The other exports are \
-read alike: a clause of `crates/cache_c/src/lib.rt`, and what it names of `cache_c/Memory`; of a shared look-up \
+first the {library_total} of this table, then the files of *An hour* from `apcu_model/History` on. Read the other exports \
+likewise: a clause of `crates/cache_c/src/lib.rt`, and what it cites of `cache_c/Memory`; of a shared look-up \
 (`cache_find_shared_unchecked`), of `cache_c/Shared`.
 
 - A clause with a star is of separation logic: `sem 𝓛 F` says that the formula `F` holds of the memory that the call owns. \
-`fsep F G`: `F` of one part of it and `G` of another. `fex A (λ x. F)`: there is an `x` in `A` with `F`. `ftrue` holds of any \
+`fsep F G`: `F` holds of one part of it and `G` of another. `fex A (λ x. F)`: there is an `x` in `A` with `F`. `ftrue` holds of any \
 memory, so `fex P (λ _. ftrue)` is the statement `P`.
 - `lies_at T full_share p x`: the value `x` of type `T` is at the pointer `p`, and the call owns all of it. `room_at T p` is \
 memory for one. `the_row` is the type of the struct that its import names.
-- `ghost cache: {{ .. }}` names what is there before the call. It is no argument of C.
+- `ghost cache: {{ .. }}` names the cache before the call. It is not an argument in C.
 
-| file | lines | what they say |
+| file | lines | contents |
 |---|---|---|
 {library_rows}
 ## By need
 
-A number is that of the lines reached without the hour's. A star: `{MAIN}` does not reach the file. What serves generated \
-runs, verdicts or maps alone is partly in files of other subjects, so the numbers of the first paragraph are larger.
+Each number counts the lines that are reached and are not part of *An hour*. A star: `{MAIN}` does not reach the file. Some \
+definitions for generated runs, verdicts or maps are in files of other subjects, so the numbers at the top are larger.
 
 {subjects(reading, main, done)}## Types
 
-Imports through `declared` are types of `src/`. A clause sees their fields and variants, the ghost members of a trait, \
+Imports through `declared` are types of `src/`. A clause uses their fields and variants, the ghost members of a trait, \
 or the `impl Model`.
 
 {typed}

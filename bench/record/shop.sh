@@ -1,16 +1,22 @@
 #!/usr/bin/env bash
 # SPDX-License-Identifier: MIT
-# Records the shop in site/: PHP's own server with five processes, and four clients that make so many visits each.
-# Usage: bench/record/shop.sh FOLDER [VISITS]; it needs php-apcu and php-uopz.
+# Records the shop in site/: PHP's own server with five processes, and four clients of VISITS visits each. With SO, the
+# extension of this repository records it by apc.record_dir; without, php/record.php records PHP's APCu.
+# Usage: bench/record/shop.sh FOLDER [VISITS [SO]]; without SO it needs php-apcu and php-uopz.
 set -eum
 here=$(cd "$(dirname "${BASH_SOURCE[0]}")" && pwd)
 mkdir -p "$1"
 folder=$(cd "$1" && pwd)
 visits=${2:-1500}
 address=127.0.0.1:8123
+if [ -n "${3:-}" ]; then
+    recorder=(-n -d extension="$(realpath -- "$3")" -d apc.record_dir="$folder")
+else
+    recorder=(-d extension=uopz -d uopz.exit=1 -d auto_prepend_file="$here/../../php/record.php")
+fi
 
-APCU_RECORD_DIR=$folder PHP_CLI_SERVER_WORKERS=4 php -d apc.enable_cli=1 -d apc.shm_size=8M -d extension=uopz \
-    -d uopz.exit=1 -d auto_prepend_file="$here/../../php/record.php" -S "$address" -t "$here/site" >/dev/null 2>&1 &
+APCU_RECORD_DIR=$folder PHP_CLI_SERVER_WORKERS=4 php "${recorder[@]}" -d apc.enable_cli=1 -d apc.shm_size=8M \
+    -S "$address" -t "$here/site" >/dev/null 2>&1 &
 server=$!
 # The server and its workers are one process group.
 trap 'kill -- "-$server"' EXIT
