@@ -9,14 +9,14 @@ ghost use Rattle.entry_slots.specs.Standing.{Stand, entries};
 
 use crate::lower::lower_laws;
 use crate::slots::EntrySlots;
-use seg_words::{HEAD_WORDS, Segment, WordsIn};
+use seg_words::{HEAD_WORDS, WordsIn};
 use std::alloc::{AllocError, Global};
 use value_image::get_bytes;
 
 impl EntrySlots {
-    /// A copy of the key of the entry at a place, which has `len` bytes according to the entry's
-    /// head. Out of memory is the only error.
-    pub fn copy_key<S: Segment>(
+    /// A copy of the key of the entry at a place, which has `len` bytes, as the entry's head says.
+    /// It fails only if memory is missing.
+    pub fn copy_key<S: WordsIn>(
         &self,
         alloc: Global,
         seg: &mut S,

@@ -23,7 +23,7 @@ mod near;
 use crate::bounds::Bounds;
 use crate::stores::{cut, link_new, link_of, merge, next_of, relink, rest_of};
 use max_tree::{MaxRow, PairRow};
-use seg_words::{Segment, begins_segment, fit_laws, segment_of};
+use seg_words::{Segment, WordsIn, begins_segment, fit_laws, segment_of};
 
 // What begins at a place: a live block or a gap.
 #[derive(Clone, Copy)]
@@ -194,8 +194,8 @@ impl Sma {
         self.lay(seg, self.bounds.from, end);
     }
 
-    /// The number of free words, which is that of the words in all gaps.
-    pub fn free_words<S: Segment>(&self, seg: &mut S) -> u32
+    /// The number of free words: the words of all gaps.
+    pub fn free_words<S: WordsIn>(&self, seg: &mut S) -> u32
         requires { IsReady self.now (S.words seg.old) (S.aside seg.old) }
         ensures value { result ≡ sum_by (λ run. run.size)
             (free_runs_in self.now.bounds (S.words seg.old)) }
@@ -205,7 +205,7 @@ impl Sma {
     }
 
     /// The size of the largest gap, in words; 0 if there is none.
-    pub fn largest<S: Segment>(&self, seg: &mut S) -> u32
+    pub fn largest<S: WordsIn>(&self, seg: &mut S) -> u32
         requires { IsReady self.now (S.words seg.old) (S.aside seg.old) }
         ensures value { result ≡ largest_of (free_runs_in self.now.bounds (S.words seg.old)) }
         ensures kept { Kept S.WordsIn seg.old seg.new }
@@ -220,8 +220,9 @@ impl Sma {
         self.head
     }
 
-    /// The first gap at or after `at`, as its place and its size; `None` exactly if there is none.
-    pub fn gap_from<S: Segment>(&self, seg: &mut S, at: u32) -> Option<(u32, u32)>
+    /// The first gap at or past `at`, as its place and its size; `None` if and only if there is
+    /// none.
+    pub fn gap_from<S: WordsIn>(&self, seg: &mut S, at: u32) -> Option<(u32, u32)>
         requires { IsReady self.now (S.words seg.old) (S.aside seg.old) }
         ensures value { result ≡ option_map (λ run. (run.place, run.size)) (find
             (λ run. nat_le at run.place) (free_runs_in self.now.bounds (S.words seg.old))) }
@@ -295,9 +296,9 @@ impl Sma {
         self.head = first;
     }
 
-    // The place from which the words right before the live block at `at` are free; `before` is the
-    // last gap before it. It reads only the index.
-    fn free_before<S: Segment>(&self, seg: &S, before: Option<usize>, at: u32) -> u32
+    // The place from which on the words right before the live block at `at` are free; `before` is
+    // the last gap before it. It reads the index alone.
+    fn free_before<S: WordsIn>(&self, seg: &S, before: Option<usize>, at: u32) -> u32
         requires ready { IsReady self.now (S.words seg.now) (S.aside seg.now) }
         requires live { IsLive (live_blocks (S.words seg.now) self.now.bounds.from) at }
         requires found { MatchOption before ((k : ℕ) → k < at / 2 → slice_index self.now.sizes k
@@ -322,8 +323,8 @@ impl Sma {
         at
     }
 
-    // The place up to which the words from the edge `end` on are free. It reads only the index.
-    fn free_after<S: Segment>(&self, seg: &S, end: u32) -> u32
+    // The place up to which the words from the edge `end` on are free. It reads the index alone.
+    fn free_after<S: WordsIn>(&self, seg: &S, end: u32) -> u32
         requires ready { IsReady self.now (S.words seg.now) (S.aside seg.now) }
         requires edge { IsEdge (S.words seg.now) self.now.bounds.from end }
         requires inside { (0 < end) × (end ≤ self.now.bounds.to) }
@@ -344,7 +345,7 @@ impl Sma {
     }
 
     // The tile that begins at `at`.
-    fn part_at<S: Segment>(&self, seg: &mut S, at: u32) -> Part
+    fn part_at<S: WordsIn>(&self, seg: &mut S, at: u32) -> Part
         requires ready { IsReady self.now (S.words seg.old) (S.aside seg.old) }
         requires edge { IsEdge (S.words seg.old) self.now.bounds.from at }
         requires inside { at < self.now.bounds.to }

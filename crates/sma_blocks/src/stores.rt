@@ -7,7 +7,7 @@ ghost use Rattle.seg_words.specs.Blocks.{IsTold, MayStore};
 ghost use Rattle.sma_blocks.specs.Walk.{cut_words, merged_words, relinked_words, relinked_head};
 ghost use Rattle.sma_blocks.specs.Walk.{link_before};
 
-use seg_words::Segment;
+use seg_words::{Segment, WordsIn};
 
 // Makes a block of the first `n` words of the gap at `at`, and a gap of what is left of it, with
 // its link.
@@ -40,7 +40,7 @@ pub fn merge<S: Segment>(seg: &mut S, first: u32, last: u32, next: u64)
 }
 
 // The link of the gap at the even place of that number, or the head if there is no such gap.
-pub fn link_of<S: Segment>(seg: &mut S, head: u32, before: Option<usize>) -> u64
+pub fn link_of<S: WordsIn>(seg: &mut S, head: u32, before: Option<usize>) -> u64
     requires inside { MatchOption before (Unit {0}) (λ q. 2 * q + 1 < length (S.words seg.old)) }
     requires told { MatchOption before (Unit {0}) (λ q. IsTold (S.aside seg.old).windows
         (2 * q + 1)) }
@@ -53,9 +53,9 @@ pub fn link_of<S: Segment>(seg: &mut S, head: u32, before: Option<usize>) -> u64
     }
 }
 
-// The place of the next gap after `n` words of the gap at `at` were taken: the rest of them, or the
-// gap's link.
-pub fn rest_of<S: Segment>(seg: &mut S, at: u32, size: u32, n: u32) -> u64
+// The place of the next gap after `n` words of the gap at `at` were taken: the rest of it, or the
+// gap that its link names.
+pub fn rest_of<S: WordsIn>(seg: &mut S, at: u32, size: u32, n: u32) -> u64
     requires inside { at + 1 < length (S.words seg.old) }
     requires told { IsTold (S.aside seg.old).windows (at + 1) }
     requires fits { at + n < 2 ^ 32 }
@@ -69,9 +69,9 @@ pub fn rest_of<S: Segment>(seg: &mut S, at: u32, size: u32, n: u32) -> u64
     seg.load(at + 1)
 }
 
-// The place of the next gap after the words from `first` up to `last` became one gap: the link of
-// the last gap among them, or else that of the gap before, or the head.
-pub fn next_of<S: Segment>(
+// The place of the next gap after the words from `first` up to `last` became one gap: that which
+// the link of the last gap among them names, or else the link of the gap before, or the head.
+pub fn next_of<S: WordsIn>(
     seg: &mut S,
     head: u32,
     before: Option<usize>,

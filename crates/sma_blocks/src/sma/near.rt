@@ -8,7 +8,7 @@ ghost use Rattle.sma_blocks.specs.Ready.{IsReady};
 
 use super::Sma;
 use crate::stores::link_of;
-use seg_words::Segment;
+use seg_words::WordsIn;
 
 // How many gaps of the chain are tried before the index is used.
 const NEAR: usize = 3;
@@ -25,7 +25,7 @@ pub struct Fit {
 impl Sma {
     // The first gap of `n` words or more, if there is one. Most blocks fit into one of the first
     // gaps, which a few loads find; the index takes a step for each of its levels.
-    pub(super) fn fit<S: Segment>(&self, seg: &mut S, n: u32) -> Option<Fit>
+    pub(super) fn fit<S: WordsIn>(&self, seg: &mut S, n: u32) -> Option<Fit>
         requires size { (n % 2 ≡ 0) × (2 ≤ n) }
         requires ready { IsReady self.now (S.words seg.old) (S.aside seg.old) }
         ensures none { IfNone result (position (λ value. nat_le n value) self.now.sizes ≡ None) }
@@ -38,8 +38,8 @@ impl Sma {
         self.far_fit(n)
     }
 
-    // That gap, if it is one of the first of the chain.
-    fn near_fit<S: Segment>(&self, seg: &mut S, n: u32) -> Option<Fit>
+    // That gap if it is one of the first of the chain.
+    fn near_fit<S: WordsIn>(&self, seg: &mut S, n: u32) -> Option<Fit>
         requires size { 2 ≤ n }
         requires ready { IsReady self.now (S.words seg.old) (S.aside seg.old) }
         ensures fit { IfSome result (λ fit. IsFit self.now.sizes n fit) }
