@@ -84,7 +84,7 @@ pub record Stands (e : EntrySlots) (words : List ℕ) (aside : Aside) (s : Entri
   pub apart : are_apart s.rows ≡ true
   pub number : e.next_number ≡ s.next_number
   pub count : e.count ≡ length s.rows
-  -- up to a moment that is kept beside the words, no row is expired
+  -- up to the moment `soonest` no row is expired
   pub limit : e.limit ≡ s.conf.ttl
   pub unexpired : AreUnexpired s.conf e.soonest s.rows
   -- the bounds are those of the shape
