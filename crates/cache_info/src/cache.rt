@@ -9,7 +9,7 @@ use crate::rows::{list_removed, list_rows};
 use cache_core::Core;
 use info_tables::{tell_cache, tell_counts};
 use php_graph::Graph;
-use seg_words::{Segment, WordsIn};
+use seg_words::WordsIn;
 use std::alloc::{AllocError, Global};
 
 /// Tells of the cache as `apcu_cache_info` does: its shape, what it counts and its rows, those
@@ -18,7 +18,7 @@ use std::alloc::{AllocError, Global};
 ///
 /// It takes as long as there are slots and rows, where `limited` as long as there are removed rows.
 /// Want of memory is the only refusal.
-pub fn cache_info<S: Segment>(
+pub fn cache_info<S: WordsIn>(
     alloc: Global,
     core: &mut Core,
     seg: &mut S,
