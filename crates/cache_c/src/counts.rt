@@ -40,7 +40,7 @@ pub struct Gap {
 }
 
 impl Cache {
-    /// What it counts, and its words.
+    /// The counters, and the numbers of words that rows and gaps have.
     pub(crate) fn counts(&mut self) -> ToldCounts
         requires stand { StandsForCache self.old }
         ensures same { StandsUnchanged self.old self.new }
@@ -48,8 +48,9 @@ impl Cache {
     {
         let counts = self.core.counts();
         let slots = self.core.slots();
-        let row_words = slots.row_words(&mut self.words.late);
-        let free_words = slots.sma().free_words(&mut self.words.late);
+        let mut lent = self.words.lent();
+        let row_words = slots.row_words(&mut lent);
+        let free_words = slots.sma().free_words(&mut lent);
         ToldCounts {
             hits: counts.hits,
             misses: counts.misses,
@@ -68,11 +69,14 @@ impl Cache {
         ensures gap { result ≡ option_map (λ (gap : Extent). (gap.place, gap.size))
             (find (λ gap. nat_le from gap.place) (gaps_of (cache_of self.old.core))) }
     {
-        self.core.slots().sma().gap_from(&mut self.words.late, from)
+        self.core
+            .slots()
+            .sma()
+            .gap_from(&mut self.words.lent(), from)
     }
 
-    /// Fills the slice with the gaps at or past a place, by rising place. It answers how many were
-    /// written.
+    /// Fills the slice with the gaps at or past a place, by rising place. Returns the number of gaps
+    /// that it wrote.
     pub(crate) fn list_gaps(&mut self, from: u32, out: &mut [Gap]) -> u64
         requires stand { StandsForCache self.old }
         ensures same { StandsUnchanged self.old self.new }

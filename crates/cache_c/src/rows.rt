@@ -97,14 +97,14 @@ impl Cache {
             return no_row();
         }
         let slot = self.core.slot_of_key(key);
-        let Some((at, _value)) = self.core.peek_in(&mut self.words.late, key, slot, t) else {
+        let Some((at, _value)) = self.core.peek_in(&mut self.words.lent(), key, slot, t) else {
             return no_row();
         };
         self.row(slot, at)
     }
 
     /// Fills the slice with the rows of a list, in their order and after the first `skip`: those of
-    /// a slot, or behind the slots the removed rows. It answers how many were written.
+    /// a slot, or behind the slots the removed rows. Returns the number of rows that it wrote.
     pub(crate) fn list_rows(&mut self, slot: u32, skip: u64, out: &mut [ToldRow]) -> u64
         requires stand { StandsForCache self.old }
         ensures same { StandsUnchanged self.old self.new }
@@ -195,7 +195,7 @@ impl Cache {
     {
         let slots = self.core.slots();
         if slot < slots.slots() {
-            return slots.first_in(&mut self.words.late, slot);
+            return slots.first_in(&mut self.words.lent(), slot);
         }
         if slot == slots.slots() {
             return slots.first_removed();
@@ -211,7 +211,7 @@ impl Cache {
         ensures row { FollowsInChain (entries self.old.core.slots) at result }
         ensures removed { FollowsIn (entries self.old.core.slots).removed at result }
     {
-        self.core.slots().after(&mut self.words.late, at)
+        self.core.slots().after(&mut self.words.lent(), at)
     }
 
     // The row at a place, which is in this list.
@@ -224,7 +224,7 @@ impl Cache {
     {
         standing_laws();
         bytes_are_packed();
-        let head = self.core.slots().head(&mut self.words.late, at);
+        let head = self.core.slots().head(&mut self.words.lent(), at);
         let value = self.value(head.image);
         ToldRow {
             place: at,
@@ -242,7 +242,7 @@ impl Cache {
         }
     }
 
-    // The value of which the image stands at a place.
+    // The value whose image is at a place.
     fn value(&mut self, image: u32) -> Answer
         requires image { (g : List Kind)
             × IsToldImage (cache_words self.old) nothing_aside.windows image g }
@@ -251,7 +251,7 @@ impl Cache {
             → IsToldImage (cache_words self.old) nothing_aside.windows image g
             → IsValueBy (cache_words self.new) g result }
     {
-        value_at(&mut self.words.late, image)
+        value_at(&mut self.words.lent(), image)
     }
 
     // The same of a value that is no scalar.
@@ -264,11 +264,11 @@ impl Cache {
             → scalar_of g ≡ None → IsValueBy (cache_words self.new) g result }
         ensures place { result.kind ≡ STR → result.place ≡ image + 1 }
     {
-        text_at(&mut self.words.late, image)
+        text_at(&mut self.words.lent(), image)
     }
 }
 
-// The value of which the image stands at a place.
+// The value whose image is at a place.
 pub(crate) fn value_at<W: WordsIn>(from: &mut W, image: u32) -> Answer
     requires image { (g : List Kind)
         × IsToldImage (W.words from.old) (W.aside from.old).windows image g }
