@@ -48,8 +48,9 @@ impl Cache {
     {
         let counts = self.core.counts();
         let slots = self.core.slots();
-        let row_words = slots.row_words(&mut self.words.late);
-        let free_words = slots.sma().free_words(&mut self.words.late);
+        let mut lent = self.words.lent();
+        let row_words = slots.row_words(&mut lent);
+        let free_words = slots.sma().free_words(&mut lent);
         ToldCounts {
             hits: counts.hits,
             misses: counts.misses,
@@ -68,7 +69,10 @@ impl Cache {
         ensures gap { result ≡ option_map (λ (gap : Extent). (gap.place, gap.size))
             (find (λ gap. nat_le from gap.place) (gaps_of (cache_of self.old.core))) }
     {
-        self.core.slots().sma().gap_from(&mut self.words.late, from)
+        self.core
+            .slots()
+            .sma()
+            .gap_from(&mut self.words.lent(), from)
     }
 
     /// Fills the slice with the gaps at or after a place, by rising place. Returns the number that

@@ -97,7 +97,7 @@ impl Cache {
             return no_row();
         }
         let slot = self.core.slot_of_key(key);
-        let Some((at, _value)) = self.core.peek_in(&mut self.words.late, key, slot, t) else {
+        let Some((at, _value)) = self.core.peek_in(&mut self.words.lent(), key, slot, t) else {
             return no_row();
         };
         self.row(slot, at)
@@ -195,7 +195,7 @@ impl Cache {
     {
         let slots = self.core.slots();
         if slot < slots.slots() {
-            return slots.first_in(&mut self.words.late, slot);
+            return slots.first_in(&mut self.words.lent(), slot);
         }
         if slot == slots.slots() {
             return slots.first_removed();
@@ -211,7 +211,7 @@ impl Cache {
         ensures row { FollowsInChain (entries self.old.core.slots) at result }
         ensures removed { FollowsIn (entries self.old.core.slots).removed at result }
     {
-        self.core.slots().after(&mut self.words.late, at)
+        self.core.slots().after(&mut self.words.lent(), at)
     }
 
     // The row at a place, which is in this list.
@@ -224,7 +224,7 @@ impl Cache {
     {
         standing_laws();
         bytes_are_packed();
-        let head = self.core.slots().head(&mut self.words.late, at);
+        let head = self.core.slots().head(&mut self.words.lent(), at);
         let value = self.value(head.image);
         ToldRow {
             place: at,
@@ -251,7 +251,7 @@ impl Cache {
             → IsToldImage (cache_words self.old) nothing_aside.windows image g
             → IsValueBy (cache_words self.new) g result }
     {
-        value_at(&mut self.words.late, image)
+        value_at(&mut self.words.lent(), image)
     }
 
     // The same for a value that is no scalar.
@@ -264,7 +264,7 @@ impl Cache {
             → scalar_of g ≡ None → IsValueBy (cache_words self.new) g result }
         ensures place { result.kind ≡ STR → result.place ≡ image + 1 }
     {
-        text_at(&mut self.words.late, image)
+        text_at(&mut self.words.lent(), image)
     }
 }
 

@@ -8,7 +8,7 @@ ghost use Rattle.seg_words.specs.Windows.{has, is_named};
 ghost use Rattle.late_words.specs.Zeros.{short_with};
 ghost use Rattle.cache_c.specs.Seats.{HeldImage, held_image};
 
-use late_words::LateWords;
+use late_words::{LateWords, LentWords};
 use seg_words::{Segment, WordsIn};
 use std::marker::Model;
 
@@ -31,8 +31,9 @@ impl Model for Held {
 /// event's probes find.
 #[derive(Drop)]
 pub struct SeatWords {
-    /// The words. Reads that write nothing use them directly, since no window is open on them.
-    pub(crate) late: LateWords,
+    // The words. They are private, so that this crate stores them only through `Segment`, which
+    // excludes the images that seats hold.
+    late: LateWords,
     // For each seat the place of the block that it holds, or 0.
     seats: [u32; 64],
     // Whether one holds a block, so that most probes read none of them.
@@ -59,6 +60,14 @@ impl SeatWords {
             left: 64,
             marks: [0; 64],
         }
+    }
+
+    /// The words for calls that only read. No window is open on them, and none can be stored.
+    pub(crate) fn lent<'a>(&'a self) -> LentWords<'a>
+        ensures { ⟦<LentWords<'a> as WordsIn>⟧.words result
+            ≡ ⟦<SeatWords as WordsIn>⟧.words self.now }
+    {
+        self.late.lent()
     }
 
     /// Begins an event: no place is refused.

@@ -92,7 +92,7 @@ impl Cache {
         View {
             slots: finder.slots,
             rows: finder.rows,
-            len: self.words.late.len(),
+            len: self.words.len(),
         }
     }
 

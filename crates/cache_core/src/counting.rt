@@ -23,7 +23,7 @@ impl Core {
     /// A copy of the value of the row that a look-up of the key at the moment `t`, in seconds,
     /// finds, and the place of that row. Nothing is counted, and the row is not used: call
     /// `count_hit` and `count_misses` once memory was found.
-    pub fn copy_live<S: Segment>(
+    pub fn copy_live<S: WordsIn>(
         &self,
         alloc: Global,
         seg: &mut S,

@@ -9,7 +9,7 @@ use crate::rows::{list_removed, list_rows};
 use cache_core::Core;
 use info_tables::{tell_cache, tell_counts};
 use php_graph::Graph;
-use seg_words::{Segment, WordsIn};
+use seg_words::WordsIn;
 use std::alloc::{AllocError, Global};
 
 /// Reports on the cache as `apcu_cache_info` does: its shape, its counters and its rows, expired
@@ -18,7 +18,7 @@ use std::alloc::{AllocError, Global};
 ///
 /// It takes time in proportion to the slots and rows or, if `limited`, to the removed rows. Out of
 /// memory is the only error.
-pub fn cache_info<S: Segment>(
+pub fn cache_info<S: WordsIn>(
     alloc: Global,
     core: &mut Core,
     seg: &mut S,

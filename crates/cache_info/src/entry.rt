@@ -12,7 +12,7 @@ ghost use Rattle.cache_info.specs.HeadNotes.{info_in};
 use apcu_model::{ListedRow, RowInfo};
 use entry_slots::{EntrySlots, Head};
 use php_graph::Bytes;
-use seg_words::{Segment, WordsIn};
+use seg_words::WordsIn;
 use std::alloc::{AllocError, Global};
 
 // What the first words of an entry contain besides its key and its value.
@@ -31,7 +31,7 @@ pub(crate) fn info(head: Head) -> RowInfo
 }
 
 // What the head of the entry at a place contains.
-pub(crate) fn info_at<S: Segment>(slots: &EntrySlots, seg: &mut S, at: u32) -> RowInfo
+pub(crate) fn info_at<S: WordsIn>(slots: &EntrySlots, seg: &mut S, at: u32) -> RowInfo
     requires stand { Stand S.WordsIn slots.now seg.old }
     requires there { has_place at (listed (entries slots.now)) ≡ true }
     ensures info { (row : Row) → IsListed (entries slots.now) at row → result ≡ info_of_row row }
@@ -41,7 +41,7 @@ pub(crate) fn info_at<S: Segment>(slots: &EntrySlots, seg: &mut S, at: u32) -> R
 }
 
 // The key of the entry at a place, and what its head contains.
-pub(crate) fn listed_at<S: Segment>(
+pub(crate) fn listed_at<S: WordsIn>(
     alloc: Global,
     slots: &EntrySlots,
     seg: &mut S,

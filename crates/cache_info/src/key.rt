@@ -9,7 +9,7 @@ use crate::entry::info_at;
 use cache_core::Core;
 use info_tables::tell_key;
 use php_graph::Graph;
-use seg_words::{Segment, WordsIn};
+use seg_words::WordsIn;
 use std::alloc::{AllocError, Global};
 
 /// Reports on the row that a look-up of the key at the moment `t`, in seconds, finds, as
@@ -17,7 +17,7 @@ use std::alloc::{AllocError, Global};
 /// Nothing is counted, and the row is not used.
 ///
 /// Out of memory is the only error.
-pub fn key_info<S: Segment>(
+pub fn key_info<S: WordsIn>(
     alloc: Global,
     core: &mut Core,
     seg: &mut S,

@@ -10,11 +10,11 @@ ghost use Rattle.entry_slots.specs.Standing.{Stand, entries};
 use crate::entry::listed_at;
 use apcu_model::ListedRow;
 use entry_slots::{EntrySlots, standing_laws};
-use seg_words::{Segment, WordsIn};
+use seg_words::WordsIn;
 use std::alloc::{AllocError, Global};
 
 // Appends the rows of a slot to the list.
-fn list_chain<S: Segment>(
+fn list_chain<S: WordsIn>(
     alloc: Global,
     slots: &EntrySlots,
     seg: &mut S,
@@ -41,7 +41,7 @@ fn list_chain<S: Segment>(
 }
 
 // All rows, by slot and place.
-pub(crate) fn list_rows<S: Segment>(
+pub(crate) fn list_rows<S: WordsIn>(
     alloc: Global,
     slots: &EntrySlots,
     seg: &mut S,
@@ -59,7 +59,7 @@ pub(crate) fn list_rows<S: Segment>(
 }
 
 // The removed rows, in the order in which they were dropped.
-pub(crate) fn list_removed<S: Segment>(
+pub(crate) fn list_removed<S: WordsIn>(
     alloc: Global,
     slots: &EntrySlots,
     seg: &mut S,

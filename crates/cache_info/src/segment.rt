@@ -12,12 +12,12 @@ ghost use Rattle.cache_core.specs.Events.{IsUnchanged};
 use cache_core::Core;
 use info_tables::{tell_gaps, tell_words};
 use php_graph::Graph;
-use seg_words::{Extent, Segment, WordsIn};
+use seg_words::{Extent, WordsIn};
 use sma_blocks::Sma;
 use std::alloc::{AllocError, Global};
 
 // The gaps, by rising place.
-fn list_gaps<S: Segment>(alloc: Global, sma: &Sma, seg: &mut S) -> Result<Vec<Extent>, AllocError>
+fn list_gaps<S: WordsIn>(alloc: Global, sma: &Sma, seg: &mut S) -> Result<Vec<Extent>, AllocError>
     requires ready { IsReady sma.now (S.words seg.old) (S.aside seg.old) }
     ensures gaps { IfOk result (λ list. list.items
         ≡ free_runs_in sma.now.bounds (S.words seg.old)) }
@@ -39,7 +39,7 @@ fn list_gaps<S: Segment>(alloc: Global, sma: &Sma, seg: &mut S) -> Result<Vec<Ex
 /// blocks count, however small each is. Nothing changes.
 ///
 /// It takes time in proportion to the gaps. Out of memory is the only error.
-pub fn sma_info<S: Segment>(
+pub fn sma_info<S: WordsIn>(
     alloc: Global,
     core: &mut Core,
     seg: &mut S,

@@ -34,6 +34,14 @@ impl LateWords {
         Ok(LateWords { written, len })
     }
 
+    /// The words, lent to calls that only read: no word can be stored through what is returned.
+    pub fn lent<'a>(&'a self) -> LentWords<'a>
+        ensures { ⟦<LentWords<'a> as WordsIn>⟧.words result
+            ≡ ⟦<LateWords as WordsIn>⟧.words self.now }
+    {
+        LentWords::of(self.written.as_slice(), self.len)
+    }
+
     // Writes zeros up to the word at `at`. Their memory is already allocated. It is a function of
     // its own so that a store among words that are written is inlined.
     #[cold]

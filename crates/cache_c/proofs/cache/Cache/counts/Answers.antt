@@ -20,7 +20,7 @@ returns-clause-counts c =
     let slots = c.slots-slots.ensures.value in
     let words = c.from.ensures ∙ c.row_words-row_words.ensures.words ∙ ap (λ (e : EntrySlots). sum_by (λ (row : Row). row.size) (entries e).rows) slots in
     let runs : List ℕ → Sma → List Extent = λ l s. free_runs_in s.bounds l in
-    let same = ap (λ l. runs l c.sma.result.now) c.row_words-row_words.ensures.kept.words ∙ ap (runs ws) (c.sma.ensures ∙ ap (λ (e : EntrySlots). e.sma) slots) ∙ gaps_are core.slots ws nothing_aside all (entries core.slots) c.requires.stand.alone.stand c.requires.stand.alone.whole in
+    let same = ap (λ l. runs l c.sma.result.now) (c.row_words-row_words.ensures.kept.words ∙ c.lent-lent.ensures) ∙ ap (runs ws) (c.sma.ensures ∙ ap (λ (e : EntrySlots). e.sma) slots) ∙ gaps_are core.slots ws nothing_aside all (entries core.slots) c.requires.stand.alone.stand c.requires.stand.alone.whole in
     let free = c.from-2.ensures ∙ c.free_words-free_words.ensures.value ∙ ap (sum_by (λ (run : Extent). run.size)) same in
     let counts = c.counts-counts.ensures in
     λ i. record {

@@ -5,6 +5,7 @@ use Rattle.entry_slots.specs.declared.slots.EntrySlots.{EntrySlots}
 use Rattle.entry_slots.specs.Lists.{has_place}
 use Rattle.entry_slots.specs.Entries.{IsListed, listed}
 use Rattle.entry_slots.specs.Standing.{entries}
+use Rattle.entry_slots.specs.Reading.{IsHeadOf}
 use Rattle.entry_slots.specs.RowPlaces.{place_from}
 use Rattle.entry_slots.proofs.KeyCopies.{key_at}
 use Rattle.entry_slots.proofs.RowBlocks.{home_listed}
@@ -22,7 +23,7 @@ value-value-requires c =
     let r = place_from c.args.at (listed s) c.requires.there in
     let there = subst (λ (e : EntrySlots). IsListed (entries e) c.args.at r.0) (sym c.slots.ensures.value) (record { there = r.1; place = r.2 }) in
     let head = c.head-head.ensures.head r.0 there in
-    record { image = (r.0.graph, subst (λ (ws : List ℕ). IsToldImage ws nothing_aside.windows c.head-head.result.image r.0.graph) (sym c.head-head.ensures.kept.words) (head_image head)) }
+    record { image = (r.0.graph, subst (λ (ws : List ℕ). IsToldImage ws nothing_aside.windows c.head-head.result.image r.0.graph) c.lent.ensures (head_image head)) }
 
 pub overflow_add-result : goal.overflow_add-result
 overflow_add-result c =
@@ -36,9 +37,8 @@ returns-clause-told c = λ row is.
     let core = c.args.self.now.core in
     let ws = cache_words c.args.self.now in
     let there = subst (λ (e : EntrySlots). IsListed (entries e) c.args.at row) (sym c.slots.ensures.value) is in
-    let head = c.head-head.ensures.head row there in
+    let head = subst (λ (l : List ℕ). IsHeadOf l nothing_aside.windows c.head-head.result row) c.lent.ensures (c.head-head.ensures.head row there) in
     let sound = c.standing_laws.ensures.sound core.slots ws nothing_aside (entries core.slots) c.requires.stand.alone.stand in
     let some : c.args.at ≢ 0 = λ zero. false≢true (sym sound.placed ∙ subst (λ (n : ℕ). has_place n (listed (entries core.slots)) ≡ true) zero c.requires.there) in
-    let image = subst (λ (l : List ℕ). IsToldImage l nothing_aside.windows c.head-head.result.image row.graph) (sym c.head-head.ensures.kept.words) (head_image head) in
     row_told c.bytes_are_packed.ensures c.args.slot c.args.at c.head-head.result row c.value-value.result c.requires.stand.alone.stand is some head
-    (c.value-value.ensures.same.words ∙ c.head-head.ensures.kept.words) (c.value-value.ensures.told row.graph image)
+    c.value-value.ensures.same.words (c.value-value.ensures.told row.graph (head_image head))
