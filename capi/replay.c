@@ -184,6 +184,8 @@ static void open_record(source *in, const char *path) {
     if (S_ISREG(is.st_mode))
         in->length = (uint64_t)is.st_size;
 
+    /* The bytes of the first event may be white space, which a format of sscanf skips: so the head is
+     * cut off at its empty line first. */
     char head[RECORD_HEAD + 1] = "";
     have(in, RECORD_HEAD);
     size_t n = in->to - in->from < RECORD_HEAD ? in->to - in->from : RECORD_HEAD;
@@ -192,17 +194,20 @@ static void open_record(source *in, const char *path) {
     int end = 0;
     if (n > 0)
         memcpy(head, in->bytes, n);
-    sscanf(head, RECORD_NAME "server %*16[0-9a-f]\nshm-size %" SCNu64 "\nslots %u\nttl %u\nvalues %u\n%n",
-           &size, &in->shape.slots, &in->shape.ttl, &values, &end);
     if (strncmp(head, RECORD_NAME, strlen(RECORD_NAME)) != 0)
         give_up("%s: it does not begin as a record", path);
-    if (end < 2 || head[end - 1] != '\n' || head[end - 2] != '\n' || values > 1 ||
-        size / 8 > UINT32_MAX)
+    char *empty_line = strstr(head, "\n\n");
+    if (empty_line) {
+        empty_line[1] = 0;
+        sscanf(head, RECORD_NAME "server %*16[0-9a-f]\nshm-size %" SCNu64 "\nslots %u\nttl %u\nvalues %u%n",
+               &size, &in->shape.slots, &in->shape.ttl, &values, &end);
+    }
+    if (!empty_line || head + end != empty_line || values > 1 || size / 8 > UINT32_MAX)
         give_up("%s: its head is not that of a record", path);
     in->shape.words = (uint32_t)(size / 8);
     in->shape.segments = 1;
     in->has_values = values == 1;
-    use(in, (size_t)end);
+    use(in, (size_t)end + 2);
 }
 
 /* An event with its bytes, which are good until the next one is read. */

@@ -146,6 +146,17 @@ wrong() {
     judge "$scratch/wrong.$name" 9 'not the due reply'
 }
 
+# The first byte behind the head may be any, white space too.
+check_seconds() {
+    local byte
+    php_with "$ours" -d apc.record_dir="$scratch/seconds" "$top/bench/record/cost.php" 5
+    for byte in 0 9 10 11 12 13 32 255; do
+        php -n "$here/record-change.php" second "$scratch/seconds" "$byte"
+        echo "a record whose first event begins with the byte $byte"
+        judge "$scratch/seconds" 0 '10 events of 1 process in 1 second: each reply is right'
+    done
+}
+
 check_folders() {
     local file
     echo 'an empty folder'
@@ -195,6 +206,7 @@ check_calls() {
     work "$scratch/without" "$ours" -d apc.record_values=0
     judge "$scratch/without" 0 'each reply is right; values were left out'
     check_changes
+    check_seconds
     check_folders
 }
 
