@@ -135,6 +135,9 @@ static void make_cache(player *p, const cache_shape *shape) {
         if (at == MAP_FAILED)
             give_up("there are no %zu bytes of memory for the cache", room_size);
         room = at;
+#ifdef MADV_HUGEPAGE
+        madvise(room, room_size, MADV_HUGEPAGE);
+#endif
     } else {
         madvise(room, room_size, MADV_DONTNEED);
     }
