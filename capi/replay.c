@@ -23,6 +23,10 @@
 
 enum { RIGHT = 0, NOTHING = 1, IN_PART = 2, WRONG = 9 };
 
+/* What is done for each event. */
+#define ALWAYS_INLINE inline __attribute__((always_inline))
+#define EXPECTED(is) __builtin_expect((is), true)
+
 enum {
     READ_BYTES = 1 << 20,
     MOST_PROCESSES = 1 << 22, /* as many numbers as Linux has */
@@ -63,6 +67,10 @@ static unsigned char *room;
 static size_t room_size, room_used;
 static bool is_making;
 
+/* Those of the cache, and how many bytes they have. They are 0 when the cache gets them. */
+static uint64_t *cache_words;
+static size_t words_size;
+
 static cache_tried got(void *at) {
     static char nothing;
     return (cache_tried){at != NULL, at ? at : &nothing};
@@ -82,7 +90,12 @@ static void *take(size_t n) {
 
 cache_tried rattle_alloc(size_t n, size_t align) {
     (void)align; /* at most 16 */
-    return got(is_making ? take(n) : malloc(n ? n : 1));
+    if (!is_making)
+        return got(malloc(n ? n : 1));
+    void *at = take(n);
+    if (!cache_words && n == words_size)
+        cache_words = at;
+    return got(at);
 }
 
 cache_tried rattle_realloc(void *at, size_t kept, size_t n, size_t align) {
@@ -101,7 +114,19 @@ void rattle_dealloc(void *at) {
 
 int rattle_errno(void) { return errno; }
 
-static uint8_t *make_cache(const cache_shape *shape) {
+/* A cache that is asked, and the look-ups that it has not counted yet: it answers them without a
+ * change, and counts them before any other call, or before one of another second. */
+enum { MOST_USES = 256 };
+
+typedef struct {
+    uint8_t *handle;
+    struct cache_view view;
+    uint64_t t, misses;
+    size_t uses;
+    uint32_t rows[MOST_USES];
+} player;
+
+static void make_cache(player *p, const cache_shape *shape) {
     if (!room) {
         /* A word has 8 bytes, and the index some more than one for each. */
         room_size = cache_size() + 10 * (size_t)shape->words + 65536;
@@ -110,18 +135,32 @@ static uint8_t *make_cache(const cache_shape *shape) {
         if (at == MAP_FAILED)
             give_up("there are no %zu bytes of memory for the cache", room_size);
         room = at;
+#ifdef MADV_HUGEPAGE
+        madvise(room, room_size, MADV_HUGEPAGE);
+#endif
     } else {
         madvise(room, room_size, MADV_DONTNEED);
     }
     room_used = 0;
-    uint8_t *handle = take(cache_size());
+    cache_words = NULL;
+    words_size = 8 * (size_t)shape->words;
+    p->handle = take(cache_size());
     is_making = true;
-    uint32_t made = cache_new(shape, handle);
+    uint32_t made = cache_new(shape, p->handle);
     is_making = false;
-    if (made != CACHE_MADE)
-        give_up("no cache has %" PRIu64 " bytes and %u slots", (uint64_t)shape->words * 8,
-                shape->slots);
-    return handle;
+    if (made != CACHE_MADE || !cache_words)
+        give_up("no cache has %zu bytes and %u slots", words_size, shape->slots);
+    p->t = p->misses = p->uses = 0;
+    cache_get_view(p->handle, &p->view);
+}
+
+static void count_uses(player *p) {
+    if (p->uses == 0 && p->misses == 0)
+        return;
+    cache_count(p->handle, p->rows, p->uses, p->misses, p->t);
+    cache_get_view(p->handle, &p->view);
+    p->uses = 0;
+    p->misses = 0;
 }
 
 /* The record as a stream. */
@@ -145,8 +184,8 @@ typedef struct {
     uint64_t events; /* that were read */
 } source;
 
-/* Whether the next n bytes are there. Memory grows with what was read, not with what is asked for. */
-static bool have(source *in, size_t n) {
+/* Reads until the next n bytes are there. Memory grows with what was read, not with what is asked for. */
+__attribute__((noinline)) static bool read_more(source *in, size_t n) {
     while (in->to - in->from < n) {
         if (in->from > 0) {
             memmove(in->bytes, in->bytes + in->from, in->to - in->from);
@@ -169,7 +208,11 @@ static bool have(source *in, size_t n) {
     return true;
 }
 
-static void use(source *in, size_t n) {
+static ALWAYS_INLINE bool have(source *in, size_t n) {
+    return EXPECTED(in->to - in->from >= n) || read_more(in, n);
+}
+
+static ALWAYS_INLINE void use(source *in, size_t n) {
     in->from += n;
     in->at += n;
 }
@@ -184,6 +227,8 @@ static void open_record(source *in, const char *path) {
     if (S_ISREG(is.st_mode))
         in->length = (uint64_t)is.st_size;
 
+    /* The bytes of the first event may be white space, which a format of sscanf skips: so the head is
+     * cut off at its empty line first. */
     char head[RECORD_HEAD + 1] = "";
     have(in, RECORD_HEAD);
     size_t n = in->to - in->from < RECORD_HEAD ? in->to - in->from : RECORD_HEAD;
@@ -192,17 +237,20 @@ static void open_record(source *in, const char *path) {
     int end = 0;
     if (n > 0)
         memcpy(head, in->bytes, n);
-    sscanf(head, RECORD_NAME "server %*16[0-9a-f]\nshm-size %" SCNu64 "\nslots %u\nttl %u\nvalues %u\n%n",
-           &size, &in->shape.slots, &in->shape.ttl, &values, &end);
     if (strncmp(head, RECORD_NAME, strlen(RECORD_NAME)) != 0)
         give_up("%s: it does not begin as a record", path);
-    if (end < 2 || head[end - 1] != '\n' || head[end - 2] != '\n' || values > 1 ||
-        size / 8 > UINT32_MAX)
+    char *empty_line = strstr(head, "\n\n");
+    if (empty_line) {
+        empty_line[1] = 0;
+        sscanf(head, RECORD_NAME "server %*16[0-9a-f]\nshm-size %" SCNu64 "\nslots %u\nttl %u\nvalues %u%n",
+               &size, &in->shape.slots, &in->shape.ttl, &values, &end);
+    }
+    if (!empty_line || head + end != empty_line || values > 1 || size / 8 > UINT32_MAX)
         give_up("%s: its head is not that of a record", path);
     in->shape.words = (uint32_t)(size / 8);
     in->shape.segments = 1;
     in->has_values = values == 1;
-    use(in, (size_t)end);
+    use(in, (size_t)end + 2);
 }
 
 /* An event with its bytes, which are good until the next one is read. */
@@ -210,26 +258,28 @@ typedef struct {
     record_event is;
     uint64_t number;
     const uint8_t *key, *text; /* text is null if the record has lengths alone */
-    size_t text_len;           /* of a string that is stored or answered */
+    size_t text_len;           /* of a string that is stored or answered; else 0 */
 } event;
 
-static const char *fault_of(const source *in, const record_event *e) {
-    bool is_request = e->kind <= CACHE_CLEAR;
-    if ((!is_request && e->kind != RECORD_REMADE) || e->zero != 0 || e->value > CACHE_STR ||
-        e->reply > CACHE_NO_NUMBER)
+static ALWAYS_INLINE uint64_t text_len_of(const record_event *e) {
+    return record_stores_text(e) ? e->number : record_answers_text(e) ? e->answer : 0;
+}
+
+static ALWAYS_INLINE const char *fault_of(const source *in, const record_event *e) {
+    if ((e->kind > CACHE_CLEAR && e->kind != RECORD_REMADE) || e->zero != 0 ||
+        e->value > CACHE_STR || e->reply > CACHE_NO_NUMBER)
         return "is no event";
     if (e->event != (uint32_t)in->events)
         return "is no event of the next number";
     if (e->process >= MOST_PROCESSES)
         return "is an event of no process";
-    if ((record_stores_text(e) || record_answers_text(e)) &&
-        (record_stores_text(e) ? e->number : e->answer) / 8 > in->shape.words)
+    if (text_len_of(e) / 8 > in->shape.words)
         return "is an event with more bytes than the cache has";
     return NULL;
 }
 
 /* False at the end, with a message if the record is damaged there. */
-static bool next_event(source *in, event *e, const char **fault) {
+static ALWAYS_INLINE bool next_event(source *in, event *e, const char **fault) {
     *fault = NULL;
     if (!have(in, sizeof e->is)) {
         *fault = in->to > in->from && !is_interrupted ? "the record ends within an event" : NULL;
@@ -238,10 +288,7 @@ static bool next_event(source *in, event *e, const char **fault) {
     memcpy(&e->is, in->bytes + in->from, sizeof e->is);
     if ((*fault = fault_of(in, &e->is)) != NULL)
         return false;
-    bool has_text = record_stores_text(&e->is) || record_answers_text(&e->is);
-    e->text_len = !has_text                   ? 0
-                  : record_stores_text(&e->is) ? (size_t)e->is.number
-                                               : (size_t)e->is.answer;
+    e->text_len = (size_t)text_len_of(&e->is);
     size_t bytes = sizeof e->is + e->is.key_len + (in->has_values ? e->text_len : 0);
     if (!have(in, bytes)) {
         *fault = is_interrupted ? NULL : "the record ends within an event";
@@ -249,7 +296,7 @@ static bool next_event(source *in, event *e, const char **fault) {
     }
     e->number = in->events++;
     e->key = in->bytes + in->from + sizeof e->is;
-    e->text = in->has_values && has_text ? e->key + e->is.key_len : NULL;
+    e->text = in->has_values ? e->key + e->is.key_len : NULL;
     use(in, bytes);
     return true;
 }
@@ -260,7 +307,26 @@ static bool next_event(source *in, event *e, const char **fault) {
  * no call reads take no memory. */
 static const uint8_t *zeros;
 
-static cache_answer ask(uint8_t *cache, const event *e) {
+static ALWAYS_INLINE cache_answer look(player *p, const event *e, uint64_t hash) {
+    struct cache_found found;
+    if (p->t != e->is.t || p->uses == MOST_USES) {
+        count_uses(p);
+        p->t = e->is.t;
+    }
+    cache_find_shared(&p->view, cache_words, p->view.len, e->key, e->is.key_len, hash, e->is.t,
+                      &found);
+    if (found.row != 0)
+        p->rows[p->uses++] = found.row;
+    else
+        p->misses++;
+    return (cache_answer){found.kind, found.place, found.number, found.len};
+}
+
+static ALWAYS_INLINE cache_answer ask(player *p, const event *e) {
+    uint64_t hash = cache_hash(e->key, e->is.key_len);
+    if (e->is.kind == CACHE_LOOK)
+        return look(p, e, hash);
+
     bool is_text = record_stores_text(&e->is);
     bool is_swap = e->is.kind == CACHE_SWAP;
     cache_request request = {.kind = e->is.kind,
@@ -268,27 +334,21 @@ static cache_answer ask(uint8_t *cache, const event *e) {
                              .ttl = is_swap ? 0 : (uint32_t)e->is.set,
                              .t = e->is.t,
                              .number = is_text ? 0 : e->is.number,
-                             .set = is_swap ? e->is.set : 0};
-    return cache_ask(cache, &request, e->key, e->is.key_len, e->text ? e->text : zeros,
-                     is_text ? e->text_len : 0);
+                             .set = is_swap ? e->is.set : 0,
+                             .hash = hash};
+    count_uses(p);
+    cache_answer answer = cache_ask_hashed(p->handle, &request, e->key, e->is.key_len,
+                                           e->text ? e->text : zeros, is_text ? e->text_len : 0);
+    cache_get_view(p->handle, &p->view);
+    return answer;
 }
 
-/* The bytes of a string that was answered, until this is called again. */
-static const uint8_t *answered(uint8_t *cache, const cache_answer *answer) {
-    static uint8_t *bytes;
-    static size_t size;
-    if (answer->len > size) {
-        free(bytes);
-        size = (size_t)answer->len; /* no more than the cache has */
-        bytes = calloc(size, 1);
-        if (!bytes)
-            give_up("there is no memory for a string of %zu bytes", size);
-    }
-    cache_copy(cache, answer->place, bytes, (size_t)answer->len);
-    return bytes;
+/* The bytes of a string that was answered: they are read where they lie, since no call is under way. */
+static const uint8_t *answered(const cache_answer *answer) {
+    return (const uint8_t *)(cache_words + answer->place);
 }
 
-static bool is_due(uint8_t *cache, const event *e, const cache_answer *due) {
+static ALWAYS_INLINE bool is_due(const event *e, const cache_answer *due) {
     if (due->kind != e->is.reply)
         return false;
     switch (due->kind) {
@@ -297,7 +357,7 @@ static bool is_due(uint8_t *cache, const event *e, const cache_answer *due) {
         return (uint64_t)due->number == e->is.answer;
     case CACHE_STR:
         return due->len == e->is.answer &&
-               (!e->text || memcmp(answered(cache, due), e->text, e->text_len) == 0);
+               (!e->text || memcmp(answered(due), e->text, e->text_len) == 0);
     default:
         return true;
     }
@@ -480,7 +540,7 @@ static void tell_progress(const source *in, bool is_done) {
     }
 }
 
-static void tell_wrong(uint8_t *cache, const event *e, const cache_answer *due, const extent *all) {
+static void tell_wrong(const event *e, const cache_answer *due, const extent *all) {
     char *texts[3] = {NULL};
     size_t lens[3] = {0};
     for (int i = 0; i < 3; i++) {
@@ -494,7 +554,7 @@ static void tell_wrong(uint8_t *cache, const event *e, const cache_answer *due, 
         else
             print_reply(out, e->is.kind, due->kind,
                         due->kind == CACHE_STR ? due->len : (uint64_t)due->number,
-                        due->kind == CACHE_STR && e->text ? answered(cache, due) : NULL);
+                        due->kind == CACHE_STR && e->text ? answered(due) : NULL);
         if (fclose(out) != 0)
             give_up("there is no memory for event %" PRIu64, e->number);
         lens[i]--; /* the line feed */
@@ -515,20 +575,21 @@ static void tell_wrong(uint8_t *cache, const event *e, const cache_answer *due, 
 
 static int judge(source *in) {
     static extent all;
+    static player p;
     event e;
     const char *fault;
-    uint8_t *cache = make_cache(&in->shape);
+    make_cache(&p, &in->shape);
     while (next_event(in, &e, &fault)) {
         if (e.is.kind == RECORD_REMADE) {
-            cache = make_cache(&in->shape);
+            make_cache(&p, &in->shape);
             all.remade++;
             continue;
         }
         reach(&all, &e);
-        cache_answer due = ask(cache, &e);
-        if (!is_due(cache, &e, &due)) {
+        cache_answer due = ask(&p, &e);
+        if (!is_due(&e, &due)) {
             tell_progress(in, true);
-            tell_wrong(cache, &e, &due, &all);
+            tell_wrong(&e, &due, &all);
             return WRONG;
         }
         if (in->events % LOOK_EACH == 0) {
@@ -651,15 +712,16 @@ static int play(source *in, const cache_shape *shape, bool is_mapped) {
     event e;
     const char *fault;
     sums all = {0};
-    uint8_t *cache = make_cache(shape);
+    static player p;
+    make_cache(&p, shape);
     while (next_event(in, &e, &fault)) {
         if (e.is.kind == RECORD_REMADE || e.is.kind == CACHE_CLEAR)
-            all.expunges += cache_get_counts(cache).expunges;
+            all.expunges += cache_get_counts(p.handle).expunges;
         if (e.is.kind == RECORD_REMADE) {
-            cache = make_cache(shape);
+            make_cache(&p, shape);
             continue;
         }
-        cache_answer answer = ask(cache, &e);
+        cache_answer answer = ask(&p, &e);
         count(&all, &e, &answer);
         if (in->events % LOOK_EACH == 0) {
             tell_progress(in, false);
@@ -673,13 +735,14 @@ static int play(source *in, const cache_shape *shape, bool is_mapped) {
     if (fault)
         fprintf(stderr, "%s: byte %" PRIu64 ": %s; what comes from there on is left out\n", in->path,
                 in->at, fault);
-    cache_counts counts = cache_get_counts(cache);
+    count_uses(&p);
+    cache_counts counts = cache_get_counts(p.handle);
     printf("hits %" PRIu64 "\nmisses %" PRIu64 "\ninserts %" PRIu64 "\nrefused %" PRIu64
            "\nexpunges %" PRIu64 "\nentries %" PRIu64 "\nused %" PRIu64 "\nfree %" PRIu64 "\n",
            all.hits, all.misses, all.inserts, all.refused, all.expunges + counts.expunges,
-           counts.entries, 8 * counts.row_words, 8 * (uint64_t)largest_gap(cache));
+           counts.entries, 8 * counts.row_words, 8 * (uint64_t)largest_gap(p.handle));
     if (is_mapped)
-        print_map(cache, shape);
+        print_map(p.handle, shape);
     if (fflush(stdout) != 0 || ferror(stdout))
         give_up("the output: %s", strerror(errno));
     return RIGHT;

@@ -169,34 +169,6 @@ static bool put(uint64_t *position, const void *bytes, size_t len)
 	return true;
 }
 
-/* A string of the cache. It is copied from whole words on. */
-static bool put_found(uint64_t *position, uint32_t place, size_t len)
-{
-	while (len > 0) {
-		size_t n = room_for(*position, len);
-
-		if (UNEXPECTED(n == 0)) {
-			return false;
-		}
-		if (n == len || n >= 8) {
-			n = n == len ? n : n / 8 * 8;
-			cache_copy(apcu_shm->cache, place, (uint8_t *) all->bytes + *position % RING_BYTES, n);
-			*position += n;
-		} else {
-			uint8_t word[8];
-
-			n = len < 8 ? len : 8;
-			cache_copy(apcu_shm->cache, place, word, n);
-			if (!put(position, word, n)) {
-				return false;
-			}
-		}
-		place += (uint32_t) (n / 8);
-		len -= n;
-	}
-	return true;
-}
-
 /* Where the next event begins. A process that died in one that the ring does not hold left a part of it
  * in the file. */
 static uint64_t next_position(void)
@@ -232,49 +204,62 @@ static bool is_full(size_t more)
 	return most != 0 && more > most - (appended()->end < most ? appended()->end : most);
 }
 
-/* Each kind has a case, so one that cache_c.h gains does not compile until it is decided here what of it is
+/* An event in the ring, where it may begin at any byte. */
+typedef struct __attribute__((packed, may_alias)) {
+	record_event is;
+} event_in_ring;
+
+/* Each kind has a case, so that one that cache_c.h gains does not compile until it is decided here what of it is
  * recorded. */
 #pragma GCC diagnostic push
 #pragma GCC diagnostic error "-Wswitch"
 
-static record_event event_of(const cache_request *request, size_t key_len, size_t len, const cache_answer *answer)
+/* Each field is written where it belongs: the processor reads what was written in smaller parts with a delay. */
+static zend_always_inline void write_event(event_in_ring *to, const cache_request *request, size_t key_len, size_t len,
+	const cache_answer *answer)
 {
-	record_event e = {
-		.t = request->t,
-		.number = request->number,
-		.set = request->ttl,
-		.answer = answer->kind == CACHE_STR ? answer->len
-			: answer->kind == CACHE_INT || answer->kind == CACHE_BOOL ? (uint64_t) answer->number : 0,
-		.event = (uint32_t) appended()->events,
-		.process = (uint32_t) process,
-		.key_len = (uint32_t) key_len,
-		.kind = (uint8_t) request->kind,
-		.reply = (uint8_t) answer->kind
-	};
+	uint64_t number = request->number, set = request->ttl;
+	uint8_t value = 0;
 
 	switch ((enum cache_event) request->kind) {
 		case CACHE_STORE:
 		case CACHE_ADD:
-			e.value = (uint8_t) request->value;
-			e.number = request->value == CACHE_STR ? len : request->number;
+			value = (uint8_t) request->value;
+			if (request->value == CACHE_STR) {
+				number = len;
+			}
 			break;
 		case CACHE_SWAP:
-			e.set = request->set;
-			break;
-		case CACHE_CLEAR:
-			e.key_len = 0;
+			set = request->set;
 			break;
 		case CACHE_LOOK:
 		case CACHE_EXISTS:
 		case CACHE_DELETE:
 		case CACHE_COUNT:
+		case CACHE_CLEAR:
 		case CACHE_HOLD:
 			break;
 	}
-	return e;
+	to->is.t = request->t;
+	to->is.number = number;
+	to->is.set = set;
+	to->is.answer = answer->kind == CACHE_STR ? answer->len
+		: answer->kind == CACHE_INT || answer->kind == CACHE_BOOL ? (uint64_t) answer->number : 0;
+	to->is.event = (uint32_t) appended()->events;
+	to->is.process = (uint32_t) process;
+	to->is.key_len = (uint32_t) key_len;
+	to->is.kind = (uint8_t) request->kind;
+	to->is.value = value;
+	to->is.reply = (uint8_t) answer->kind;
+	to->is.zero = 0;
 }
 
 #pragma GCC diagnostic pop
+
+bool apcu_record_is_on(void)
+{
+	return apcu_is_recorded && all->state == RECORDING;
+}
 
 bool apcu_record_note(const cache_request *request, const zend_string *key, const char *bytes, size_t len,
 	const cache_answer *answer)
@@ -287,10 +272,20 @@ bool apcu_record_note(const cache_request *request, const zend_string *key, cons
 		return false;
 	}
 
-	record_event e = event_of(request, ZSTR_LEN(key), len, answer);
-	size_t stored = is_with_values && record_stores_text(&e) ? len : 0;
-	size_t found = is_with_values && record_answers_text(&e) ? answer->len : 0;
-	if (UNEXPECTED(is_full(sizeof e + e.key_len + stored + found))) {
+	/* A clear has no key. */
+	const char *name = request->kind == CACHE_CLEAR ? "" : ZSTR_VAL(key);
+	size_t key_len = request->kind == CACHE_CLEAR ? 0 : ZSTR_LEN(key);
+	const char *text = bytes;
+	size_t text_len = 0;
+	if (is_with_values && is_store(request) && request->value == CACHE_STR) {
+		text_len = len;
+	} else if (is_with_values && request->kind == CACHE_LOOK && answer->kind == CACHE_STR) {
+		text = (const char *) (apcu_shm->words + answer->place);
+		text_len = answer->len;
+	}
+
+	size_t size = sizeof(event_in_ring) + key_len + text_len;
+	if (UNEXPECTED(is_full(size))) {
 		end(ENDED, "apc.record_size is reached");
 		if (!has_writer()) {
 			become_writer();
@@ -299,8 +294,21 @@ bool apcu_record_note(const cache_request *request, const zend_string *key, cons
 	}
 
 	uint64_t position = next_position();
-	if (put(&position, &e, sizeof e) && put(&position, ZSTR_VAL(key), e.key_len) && put(&position, bytes, stored)
-			&& put_found(&position, answer->place, found)) {
+	size_t at = position % RING_BYTES;
+	if (EXPECTED(size <= RING_BYTES - at && size <= RING_BYTES - (position - all->written))) {
+		char *to = all->bytes + at;
+
+		write_event((event_in_ring *) to, request, key_len, len, answer);
+		to += sizeof(event_in_ring);
+		memcpy(to, name, key_len);
+		memcpy(to + key_len, text, text_len);
+		return append(position + size);
+	}
+
+	/* It is in two pieces of the ring, or room is made for it. */
+	event_in_ring e;
+	write_event(&e, request, key_len, len, answer);
+	if (put(&position, &e, sizeof e) && put(&position, name, key_len) && put(&position, text, text_len)) {
 		return append(position);
 	}
 	return message != NULL;

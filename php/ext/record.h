@@ -16,6 +16,10 @@ extern bool apcu_is_recorded;
  * failed; then nothing is recorded. */
 const char *apcu_record_start(const char *folder, bool has_values, uint64_t limit);
 
+/* Under the lock: whether all processes record events. Then none of them reads in a lane until the lock is
+ * released: a process that ends the recording without the lock does so before it takes a lane. */
+bool apcu_record_is_on(void);
+
 /* Under the lock, before another process learns of the answer: appends an event. True if
  * apcu_record_write has something to do when the lock was released. */
 bool apcu_record_note(const cache_request *request, const zend_string *key, const char *bytes, size_t len,

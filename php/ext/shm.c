@@ -270,7 +270,7 @@ bool apcu_lock(void)
 		let_signals();
 		return false;
 	}
-	bool has_uses = lanes_wait(&apcu_shm->lanes);
+	bool has_uses = !apcu_record_is_on() && lanes_wait(&apcu_shm->lanes);
 	if (UNEXPECTED(error != 0)) {
 		recover();
 	}
@@ -402,9 +402,9 @@ apcu_kept *apcu_read_kept(zend_string *key, const struct cache_found *found)
 	return apcu_kept_find(key, tail);
 }
 
-void apcu_read_copy(const apcu_reading *reading, const struct cache_found *found, char *out)
+void apcu_copy_found(uint32_t place, size_t len, char *out)
 {
-	memcpy(out, apcu_shm->words + found->place, found->len);
+	memcpy(out, apcu_shm->words + place, len);
 }
 
 bool apcu_read_may_note(const apcu_reading *reading, time_t t)

@@ -95,8 +95,8 @@ void apcu_read_find(const zend_string *key, uint64_t hash, time_t t, struct cach
 /* The kept value of a string that was found, or null. */
 struct apcu_kept *apcu_read_kept(zend_string *key, const struct cache_found *found);
 
-/* Copies the bytes of a string that was found. */
-void apcu_read_copy(const apcu_reading *reading, const struct cache_found *found, char *out);
+/* In a lane or under the lock: copies the bytes of a string that was found. */
+void apcu_copy_found(uint32_t place, size_t len, char *out);
 
 /* Counts a hit of a row, or a miss for 0; if it was begun so, and again while it may. */
 void apcu_read_note(const apcu_reading *reading, uint32_t row, time_t t);

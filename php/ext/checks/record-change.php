@@ -3,7 +3,8 @@
 // php record-change.php KIND FOLDER [N]: changes a record at one event, and prints the number of the first one that is wrong
 // then. KIND is reply (another number is given, by the first apcu_inc from the N. tenth of the events on), swap (two calls on
 // one key change their places), left (a call is left out, and those behind it are numbered as if it had not been), or gone
-// (the same, and its number is missing). Without N it is in the middle.
+// (the same, and its number is missing). Without N it is in the middle. With the KIND second no event is wrong: the lowest
+// byte of each event's second is N.
 
 declare(strict_types=1);
 
@@ -22,6 +23,14 @@ $path = glob("$folder/*.record")[0];
 $record = file_get_contents($path);
 preg_match('/\A[^\0]*?\n\n/', $record, $found);
 [$head, $events] = [$found[0], events(substr($record, strlen($found[0])))];
+if ($kind === 'second') {
+    foreach ($events as [$is, $rest]) {
+        $is['t'] = $is['t'] & ~255 | (int) $tenth;
+        $head .= pack('PPPPVVVCCCC', ...array_values($is)) . $rest;
+    }
+    file_put_contents($path, $head);
+    exit;
+}
 $at = intdiv(count($events) * (int) $tenth, 10);
 [$at, $other] = match ($kind) {
     'reply' => [next_counted($events, $at), null],

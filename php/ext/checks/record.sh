@@ -146,6 +146,17 @@ wrong() {
     judge "$scratch/wrong.$name" 9 'not the due reply'
 }
 
+# The first byte behind the head may be any, white space too.
+check_seconds() {
+    local byte
+    php_with "$ours" -d apc.record_dir="$scratch/seconds" "$top/bench/record/cost.php" 5
+    for byte in 0 9 10 11 12 13 32 255; do
+        php -n "$here/record-change.php" second "$scratch/seconds" "$byte"
+        echo "a record whose first event begins with the byte $byte"
+        judge "$scratch/seconds" 0 '10 events of 1 process in 1 second: each reply is right'
+    done
+}
+
 check_folders() {
     local file
     echo 'an empty folder'
@@ -162,29 +173,43 @@ check_folders() {
     judge "$scratch/cut" 2 'ends within an event' 'each judged reply is right'
 }
 
-# Milliseconds of processor time of 100,000 stores and fetches.
+# Milliseconds of processor time and of the clock of stores and fetches: spent COUNT PROCESSES SETTING..
 spent() {
-    local TIMEFORMAT='%U %S'
+    local TIMEFORMAT='%U %S %R' count=$1 processes=$2
+    shift 2
     rm -rf "$scratch/cost"
-    { time php_with "$ours" -d apc.shm_size=128M "$@" "$top/bench/record/cost.php" 100000 >/dev/null; } 2>&1 |
-        awk '{ printf "%.0f ", ($1 + $2) * 1000 }'
+    { time php_with "$ours" -d apc.shm_size=128M -d error_log=/dev/null "$@" "$top/bench/record/cost.php" "$count" "$processes" \
+        >/dev/null; } 2>&1 | awk '{ printf "%.0f %.0f ", ($1 + $2) * 1000, $3 * 1000 }'
 }
 
-# In turn without a record, with one, and with one without values; the least of nine.
+# By one process, and by eight that share four times the calls: in turn without a call, without a record, with one, and with
+# one without values; the least of nine. The time of a program without a call is taken off before two are compared.
 check_costs() {
-    local run
-    for run in 1 2 3 4 5 6 7 8 9; do
-        spent
-        spent -d apc.record_dir="$scratch/cost"
-        spent -d apc.record_dir="$scratch/cost" -d apc.record_values=0
-        echo
-    done | awk '
-        { for (i = 1; i <= 3; i++) if (NR == 1 || $i < least[i]) least[i] = $i }
-        END {
-            printf "100,000 stores and fetches of 100 bytes: %d ms; recorded %d ms, without values %d ms\n", least[1],
-                least[2], least[3]
-            exit !(least[2] <= 1.25 * least[1])
-        }' || { echo 'recording costs more than a quarter' >&2; status=1; }
+    local run processes count
+    for processes in 1 8; do
+        count=$((processes == 1 ? 100000 : 400000))
+        for run in 1 2 3 4 5 6 7 8 9; do
+            spent 0 "$processes"
+            spent "$count" "$processes"
+            spent "$count" "$processes" -d apc.record_dir="$scratch/cost"
+            spent "$count" "$processes" -d apc.record_dir="$scratch/cost" -d apc.record_values=0
+            echo
+        done | awk -v calls="$((2 * count))" -v processes="$processes" '
+            { for (i = 1; i <= NF; i++) if (NR == 1 || $i < least[i]) least[i] = $i }
+            function told(name, i,    none) {
+                none = least[i + 2] - least[i]
+                printf "    %s: %d ms; recorded %d ms (%.2f), without values %d ms (%.2f)\n", name, none, least[i + 4] - least[i],
+                    (least[i + 4] - least[i]) / none, least[i + 6] - least[i], (least[i + 6] - least[i]) / none
+                return (least[i + 4] - least[i]) / none
+            }
+            END {
+                printf "%d stores and fetches of 100 bytes, processes: %d\n", calls, processes
+                most = told("processor", 1)
+                told("clock", 2)
+                exit !(most <= 1.25)
+            }' || { echo 'recording costs more than a quarter' >&2; status=1; }
+    done
+    rm -rf "$scratch/cost"
 }
 
 check_calls() {
@@ -195,6 +220,7 @@ check_calls() {
     work "$scratch/without" "$ours" -d apc.record_values=0
     judge "$scratch/without" 0 'each reply is right; values were left out'
     check_changes
+    check_seconds
     check_folders
 }
 
