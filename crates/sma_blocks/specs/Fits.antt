@@ -1,4 +1,4 @@
--- What a look for a gap finds.
+-- What a search for a gap finds.
 use Rattle.std.specs.Prelude.{◌≡◌, ◌≢◌, ℕ, ◌<◌, nat_le, List, slice_index, Some, MatchOption}
 use Rattle.std.specs.List.{position}
 use Rattle.sma_blocks.specs.declared.sma.near.Fit.{Fit}

@@ -1,4 +1,4 @@
--- What the index of gaps says of the words.
+-- How the index of gaps describes the words.
 use Rattle.std.specs.Prelude.{◌≡◌, ◌≢◌, ℕ, ◌+◌, ◌-◌, ◌/◌, ◌<◌, ◌≤◌, ◌==◌, ◌&&◌, not, if◌then◌else◌}
 use Rattle.std.specs.Prelude.{List, [], ◌∷◌, length, slice_index}
 use Rattle.sma_blocks.specs.Tiles.{Tile, tiles}
@@ -26,8 +26,8 @@ pub record IsShort (old new : List ℕ) (index size n : ℕ) : Type 0 where
   pub others : (i : ℕ) → i ≢ index → (n < size → i ≢ index + n / 2)
       → slice_index new i ≡ slice_index old i
 
--- the numbers after a block, which ended at `end`, and the gaps round it, from `first` up to
--- `last`, became one gap
+-- the numbers after a block that ended at `end` and the gaps next to it, from `first` up to `last`,
+-- became one gap
 pub record IsJoined (old new : List ℕ) (first end last : ℕ) : Type 0 where
   pub count : length new ≡ length old
   pub there : slice_index new (first / 2) ≡ last - first

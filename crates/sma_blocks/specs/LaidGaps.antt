@@ -5,9 +5,9 @@ use Rattle.sma_blocks.specs.Live.{gap_words}
 use Rattle.sma_blocks.specs.Index.{size_at}
 use Rattle.sma_blocks.specs.Chain.{AreLinked}
 
--- The words from `end` on are blocks and gaps of segments, the numbers tell their gaps' sizes
--- alone, these gaps are linked from the head on, and their words are counted; where `after_gap` is
--- true, no gap begins at `end` in the segment of the word before.
+-- The words from `end` on are blocks and gaps of segments, the numbers are the sizes of their gaps
+-- and nothing else, these gaps are linked from the head on, and their words are counted; if
+-- `after_gap` is true, no gap begins at `end` in the segment of the word before.
 pub record IsLaid (piece : ℕ) (words : List ℕ) (end : ℕ) (sizes : List ℕ) (head free : ℕ)
     (after_gap : Bool) : Type 0 where
   pub full : Fill words end (tiles words end) (length words)

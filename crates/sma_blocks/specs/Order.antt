@@ -1,5 +1,5 @@
--- What follows where blocks may be taken and given: the live blocks stand one behind the other, and
--- the windows may become others that name live blocks.
+-- What follows if blocks may be taken and freed: the live blocks are ordered by place, and the
+-- windows may come to name other live blocks.
 use Rattle.std.proofs.Common.{◌≡◌, ℕ, ◌+◌, ◌≤◌, Bool, true, false, cond, List, [], ◌∷◌, length}
 use Rattle.std.proofs.Common.{slice_index, refl, sym, ap, ◌∙◌, subst, arith}
 use Rattle.seg_words.specs.declared.gaps.Extent.{Extent}
@@ -12,7 +12,7 @@ use Rattle.sma_blocks.specs.Ready.{NameLive, AreBlocks, IsReady}
 abbrev tile_extent : Tile → Extent
 tile_extent p = record { place = p.place; size = p.size }
 
--- the live blocks stand one behind the other
+-- the live blocks are ordered by place
 blocks_from : (ws : List ℕ) (low from : ℕ) (es : List Extent) (high : ℕ) → low ≤ from
     → AreBlocks ws from es high → AreBlocks ws low es high
 blocks_from ws low from [] high le h = omega (arith, h)
@@ -34,7 +34,7 @@ lives_stand ws a (p ∷ ps) b h = go p.live refl (lives_stand ws (a + p.size) ps
         (omega (arith, h.0.place), h.0.enough, word, behind)
     go false is rest = blocks_from ws a (a + p.size) (lives ps) b (omega arith) rest
 
--- so they do where the words are ready
+-- so they are if the words are ready
 pub ready_blocks : {sma : Sma} {words : List ℕ} {aside : Aside} → IsReady sma words aside
     → AreBlocks words sma.bounds.from (live_blocks words sma.bounds.from) sma.bounds.to
 ready_blocks {sma} {words} {aside} ready =

@@ -1,4 +1,4 @@
--- What the words from a place on say: blocks and gaps side by side. The first word of a block is
+-- What the words from a place on represent: adjacent blocks and gaps. The first word of a block is
 -- its size, and the first word of a gap is its size plus 1; all sizes are even.
 use Rattle.std.specs.Prelude.{◌≡◌, ℕ, zero, suc, ◌+◌, ◌-◌, ◌%◌, ◌≤◌, ◌==◌, ◌&&◌, ◌||◌, Bool, false}
 use Rattle.std.specs.Prelude.{true, not, if◌then◌else◌, List, [], ◌∷◌, length, drop, slice_index}
@@ -11,7 +11,7 @@ pub record Tile : Type 0 where
   pub size : ℕ
   pub live : Bool
 
--- the size that a tile's first word tells
+-- the size that a tile's first word gives
 abbrev pub size_in : ℕ → ℕ
 size_in word = word - word % 2
 
@@ -19,8 +19,8 @@ size_in word = word - word % 2
 abbrev pub tile_of : ℕ → ℕ → Tile
 tile_of place word = record { place = place; size = size_in word; live = word % 2 == 0 }
 
--- the tiles that begin among these words, which stand from `place` on, where so many words at the
--- front belong to a tile that began before
+-- the tiles that begin among these words, which begin at `place`; this number of words at the front
+-- belong to a tile that began before
 abbrev pub tiles_in : ℕ → ℕ → List ℕ → List Tile
 tiles_in place skip [] = []
 tiles_in place zero (word ∷ words) =
@@ -35,21 +35,21 @@ tiles words from = tiles_in from 0 (drop from words)
 abbrev pub word_of : Tile → ℕ
 word_of tile = tile.size + (if tile.live then 0 else 1)
 
--- the tile stands at this place in the words
+-- the tile is at this place in the words
 pub record IsTileAt (words : List ℕ) (at : ℕ) (tile : Tile) : Type 0 where
   pub place : tile.place ≡ at
   pub word : slice_index words at ≡ word_of tile
   pub even : tile.size % 2 ≡ 0
   pub enough : 2 ≤ tile.size
 
--- the tiles stand side by side in the words from `from` up to `to`, with no word between them
+-- the tiles fill the words from `from` up to `to`, with no word between them
 abbrev pub Fill : List ℕ → ℕ → List Tile → ℕ → Type 0
 Fill words from [] to = from ≡ to
 Fill words from (tile ∷ rest) to =
     IsTileAt words from tile × Fill words (from + tile.size) rest to
 
--- two gaps stand side by side in one segment of so many words, where `after_gap` says whether a gap
--- stands before the tiles
+-- two gaps are adjacent in one segment of this number of words; `after_gap` is whether a gap comes
+-- before the tiles
 abbrev pub gaps_touch : ℕ → Bool → List Tile → Bool
 gaps_touch piece after_gap [] = false
 gaps_touch piece after_gap (tile ∷ rest) =
@@ -61,7 +61,7 @@ abbrev pub are_whole : ℕ → List Tile → Bool
 are_whole piece tiles = list_all (λ tile. is_whole piece tile.place tile.size) tiles
 
 -- the words from an even place on are blocks and gaps to their end, each lies in one segment, and
--- no two gaps stand side by side in one
+-- no two gaps in one segment are adjacent
 pub record IsFormatted (words : List ℕ) (from piece : ℕ) : Type 0 where
   pub even : from % 2 ≡ 0
   pub full : Fill words from (tiles words from) (length words)

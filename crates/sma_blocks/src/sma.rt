@@ -32,18 +32,19 @@ struct Part {
     is_gap: bool,
 }
 
-/// The shared memory allocator: blocks and gaps that fill the words of a segment from a place on.
+/// The shared memory allocator: blocks and gaps that fill the words of a segment from a given
+/// place.
 ///
 /// All places and sizes are even numbers of words. The second word of a gap is the place of the
-/// next one, or 0. A call that needs a gap tries a few of them, and an index in plain memory then
-/// finds it, so that no call walks; the index is made from the row that `format` is handed, and no
-/// call takes memory.
+/// next one, or 0. A call that needs a gap first tries a few of them and then uses an index in
+/// plain memory, so that no call walks the gaps. The index is built in the row that is passed to
+/// `format`, and no call allocates memory.
 pub struct Sma {
     /// The bounds of these words. No call changes them.
     pub bounds: Bounds,
     // The place of the first gap, or 0.
     head: u32,
-    // How many words all gaps have.
+    // The number of words in all gaps.
     free: u32,
     // The size of the gap that begins at each even place, or 0.
     sizes: PairRow,
@@ -61,8 +62,8 @@ impl Drop for Sma {
 }
 
 impl Sma {
-    /// Makes one gap of each segment of `piece` words, of the first from `from` on. No window may
-    /// be open.
+    /// Makes one gap in each segment of `piece` words, in the first one from `from` on. No window
+    /// may be open.
     ///
     /// `gaps` is the memory of the index: zeros, one for every four words.
     pub fn format<S: Segment>(seg: &mut S, from: u32, piece: u32, gaps: MaxRow) -> Sma
@@ -93,8 +94,8 @@ impl Sma {
         sma
     }
 
-    /// Makes a live block of `n` words at the least place where they fit beside all live blocks and
-    /// inside one segment; `None` exactly where they fit nowhere, and then nothing changed.
+    /// Makes a live block of `n` words at the lowest place inside one segment that overlaps no live
+    /// block. `None` exactly if there is no such place; then nothing changed.
     pub fn take<S: Segment>(&mut self, seg: &mut S, n: u32) -> Option<u32>
         requires size { (n % 2 ≡ 0) × (2 ≤ n) }
         requires ready { IsReady self.old (S.words seg.old) (S.aside seg.old) }
@@ -127,9 +128,8 @@ impl Sma {
         Some(at)
     }
 
-    /// Makes the block at `at` live no more, and one gap of it and the gaps beside it in its
-    /// segment.
-    /// No window may name the block.
+    /// Frees the block at `at`: its words and the gaps next to it in its segment become one gap. No
+    /// window may name the block.
     pub fn give<S: Segment>(&mut self, seg: &mut S, at: u32)
         requires live { IsLive (live_blocks (S.words seg.old) self.old.bounds.from) at }
         requires unnamed { is_named (S.aside seg.old).windows at ≡ false }
@@ -144,8 +144,8 @@ impl Sma {
             (free_runs_in self.new.bounds (S.words seg.new)) }
         ensures beside { KeptBeside S.WordsIn seg.old seg.new }
     {
-        // The words of the block first: they are the farthest from the processor, and come while
-        // the index is read.
+        // The words of the block first: they are the farthest from the processor, and are fetched
+        // while the index is read.
         let given = self.part_at(seg, at);
         let end = at + given.size;
         let last = self.free_after(seg, end);
@@ -158,7 +158,7 @@ impl Sma {
         link_new(seg, &mut self.head, before, first, at);
     }
 
-    /// Keeps the blocks at these rising places live, and makes gaps of all other words. Every
+    /// Keeps the blocks at these places, which rise, and makes gaps of all other words. Every
     /// window names one of these blocks.
     pub fn keep<S: Segment>(&mut self, seg: &mut S, places: &[u32])
         requires live { (i : ℕ) → i < length places.now → IsLive (live_blocks
@@ -181,7 +181,7 @@ impl Sma {
         self.sizes.clear();
         self.free = 0;
         self.head = 0;
-        // From the last block on, so that the link of each gap is known when it is made.
+        // From the last block backwards, so that the link of each gap is known when it is made.
         let mut end = self.bounds.to;
         let mut i = places.len();
         while i > 0 {
@@ -194,7 +194,7 @@ impl Sma {
         self.lay(seg, self.bounds.from, end);
     }
 
-    /// How many words are free: the words of all gaps.
+    /// The number of free words, which is that of the words in all gaps.
     pub fn free_words<S: Segment>(&self, seg: &mut S) -> u32
         requires { IsReady self.now (S.words seg.old) (S.aside seg.old) }
         ensures value { result ≡ sum_by (λ run. run.size)
@@ -204,7 +204,7 @@ impl Sma {
         self.free
     }
 
-    /// The size of the largest gap, in words; 0 where there is none.
+    /// The size of the largest gap, in words; 0 if there is none.
     pub fn largest<S: Segment>(&self, seg: &mut S) -> u32
         requires { IsReady self.now (S.words seg.old) (S.aside seg.old) }
         ensures value { result ≡ largest_of (free_runs_in self.now.bounds (S.words seg.old)) }
@@ -213,15 +213,14 @@ impl Sma {
         self.sizes.largest()
     }
 
-    /// The place of the first gap; 0 where there is none.
+    /// The place of the first gap; 0 if there is none.
     pub fn first_gap(&self) -> u32
         ensures { result ≡ self.now.head }
     {
         self.head
     }
 
-    /// The first gap at or past `at`, as its place and its size; `None` exactly where there is
-    /// none.
+    /// The first gap at or after `at`, as its place and its size; `None` exactly if there is none.
     pub fn gap_from<S: Segment>(&self, seg: &mut S, at: u32) -> Option<(u32, u32)>
         requires { IsReady self.now (S.words seg.old) (S.aside seg.old) }
         ensures value { result ≡ option_map (λ run. (run.place, run.size)) (find
@@ -296,8 +295,8 @@ impl Sma {
         self.head = first;
     }
 
-    // The place from which on the words right before the live block at `at` are free, where
-    // `before` is the last gap before it. It reads the index alone.
+    // The place from which the words right before the live block at `at` are free; `before` is the
+    // last gap before it. It reads only the index.
     fn free_before<S: Segment>(&self, seg: &S, before: Option<usize>, at: u32) -> u32
         requires ready { IsReady self.now (S.words seg.now) (S.aside seg.now) }
         requires live { IsLive (live_blocks (S.words seg.now) self.now.bounds.from) at }
@@ -314,7 +313,7 @@ impl Sma {
         };
         let first = 2 * index as u32;
         if first + self.sizes.get(index) == at {
-            // The border takes a division, so it is asked for last.
+            // Finding the border takes a division, so it comes last.
             if begins_segment(self.bounds.piece, at) {
                 return at;
             }
@@ -323,7 +322,7 @@ impl Sma {
         at
     }
 
-    // The place up to which the words from the edge `end` on are free. It reads the index alone.
+    // The place up to which the words from the edge `end` on are free. It reads only the index.
     fn free_after<S: Segment>(&self, seg: &S, end: u32) -> u32
         requires ready { IsReady self.now (S.words seg.now) (S.aside seg.now) }
         requires edge { IsEdge (S.words seg.now) self.now.bounds.from end }
@@ -365,7 +364,7 @@ impl Sma {
     }
 }
 
-// The gap begins after its first `n` words, or is no more.
+// The gap begins after its first `n` words, or is removed.
 fn shorten(sizes: &mut PairRow, index: usize, size: u32, n: u32)
     requires inside { (index < length sizes.old) × (n < size → index + n / 2 < length sizes.old) }
     requires short { index + n / 2 < 2 ^ 32 }
@@ -382,8 +381,8 @@ fn shorten(sizes: &mut PairRow, index: usize, size: u32, n: u32)
     }
 }
 
-// One gap from `first` up to `last` is there in place of the gaps among those words, where the
-// block that was given ended at `end`.
+// One gap from `first` up to `last` replaces the gaps among those words; the freed block ended at
+// `end`.
 fn join(sizes: &mut PairRow, first: u32, end: u32, last: u32)
     requires inside { (first / 2 < length sizes.old) × (end < last → end / 2 < length sizes.old) }
     requires order { (first + 2 ≤ end) × (end ≤ last) }

@@ -39,7 +39,7 @@ pub fn merge<S: Segment>(seg: &mut S, first: u32, last: u32, next: u64)
     seg.store(first + 1, next);
 }
 
-// The link of the gap at the even place of that number, or the head where there is no such gap.
+// The link of the gap at the even place of that number, or the head if there is no such gap.
 pub fn link_of<S: Segment>(seg: &mut S, head: u32, before: Option<usize>) -> u64
     requires inside { MatchOption before (Unit {0}) (λ q. 2 * q + 1 < length (S.words seg.old)) }
     requires told { MatchOption before (Unit {0}) (λ q. IsTold (S.aside seg.old).windows
@@ -53,8 +53,8 @@ pub fn link_of<S: Segment>(seg: &mut S, head: u32, before: Option<usize>) -> u64
     }
 }
 
-// Where the next gap begins after `n` words of the gap at `at` were taken: the rest of them, or the
-// one that the gap's link tells.
+// The place of the next gap after `n` words of the gap at `at` were taken: the rest of them, or the
+// gap's link.
 pub fn rest_of<S: Segment>(seg: &mut S, at: u32, size: u32, n: u32) -> u64
     requires inside { at + 1 < length (S.words seg.old) }
     requires told { IsTold (S.aside seg.old).windows (at + 1) }
@@ -69,8 +69,8 @@ pub fn rest_of<S: Segment>(seg: &mut S, at: u32, size: u32, n: u32) -> u64
     seg.load(at + 1)
 }
 
-// Where the next gap begins after the words from `first` up to `last` became one gap: what the link
-// of the last gap among them tells, or else that of the gap before, or the head.
+// The place of the next gap after the words from `first` up to `last` became one gap: the link of
+// the last gap among them, or else that of the gap before, or the head.
 pub fn next_of<S: Segment>(
     seg: &mut S,
     head: u32,
@@ -102,8 +102,8 @@ pub fn next_of<S: Segment>(
     link_of(seg, head, before)
 }
 
-// Links a gap that begins at `first`: where no gap before it became part of it, the one before, or
-// the head, gets a new link.
+// Links a gap that begins at `first`: if no gap before it became part of it, the one before, or the
+// head, gets a new link.
 pub fn link_new<S: Segment>(seg: &mut S, head: &mut u32, before: Option<usize>, first: u32, at: u32)
     requires inside { MatchOption before (Unit {0}) (λ q. 2 * q + 1 < length (S.words seg.old)) }
     requires apart { MatchOption before (Unit {0}) (λ q. MayStore (S.words seg.old)
@@ -118,8 +118,7 @@ pub fn link_new<S: Segment>(seg: &mut S, head: &mut u32, before: Option<usize>, 
     }
 }
 
-// Makes `next` the link of the gap at the even place of that number, or the head where there is
-// none.
+// Makes `next` the link of the gap at the even place of that number, or the head if there is none.
 pub fn relink<S: Segment>(seg: &mut S, head: &mut u32, before: Option<usize>, next: u64)
     requires inside { MatchOption before (Unit {0}) (λ q. 2 * q + 1 < length (S.words seg.old)) }
     requires apart { MatchOption before (Unit {0}) (λ q. MayStore (S.words seg.old)

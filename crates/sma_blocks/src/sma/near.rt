@@ -1,4 +1,4 @@
-//! The few gaps that a call tries before it asks the index.
+//! The few gaps that a call tries before it uses the index.
 
 ghost use Rattle.std.specs.Prelude.{◌≡◌, ◌%◌, ◌≤◌, IfNone, IfSome, nat_le};
 ghost use Rattle.std.specs.List.{position};
@@ -10,7 +10,7 @@ use super::Sma;
 use crate::stores::link_of;
 use seg_words::Segment;
 
-// How many gaps of the chain are tried before the index is asked.
+// How many gaps of the chain are tried before the index is used.
 const NEAR: usize = 3;
 
 // A gap that is large enough: it begins at the even place of the number `index`.
@@ -24,7 +24,7 @@ pub struct Fit {
 
 impl Sma {
     // The first gap of `n` words or more, if there is one. Most blocks fit into one of the first
-    // gaps, and these are told by a few loads; the index takes a step for each of its levels.
+    // gaps, which a few loads find; the index takes a step for each of its levels.
     pub(super) fn fit<S: Segment>(&self, seg: &mut S, n: u32) -> Option<Fit>
         requires size { (n % 2 ≡ 0) × (2 ≤ n) }
         requires ready { IsReady self.now (S.words seg.old) (S.aside seg.old) }
@@ -38,7 +38,7 @@ impl Sma {
         self.far_fit(n)
     }
 
-    // That gap where it is one of the first of the chain.
+    // That gap, if it is one of the first of the chain.
     fn near_fit<S: Segment>(&self, seg: &mut S, n: u32) -> Option<Fit>
         requires size { 2 ≤ n }
         requires ready { IsReady self.now (S.words seg.old) (S.aside seg.old) }
@@ -67,7 +67,7 @@ impl Sma {
         None
     }
 
-    // That gap by the index.
+    // That gap, found by the index.
     fn far_fit(&self, n: u32) -> Option<Fit>
         requires { (n % 2 ≡ 0) × (2 ≤ n) }
         ensures none { IfNone result (position (λ value. nat_le n value) self.now.sizes ≡ None) }
