@@ -1,4 +1,4 @@
--- What is decided of rows stays so: facts that proofs here and in the crates above cite.
+-- What is decided of rows stays decided: facts for proofs here and in the crates above.
 use Rattle.std.proofs.Common.{◌≡◌, List, filter, sym, ◌∙◌}
 use Rattle.seg_words.specs.Windows.{Aside, held_blocks}
 use Rattle.seg_words.specs.Probing.{Goes, stays_decided, stays_held}
@@ -14,7 +14,7 @@ all_stay old new rows goes was = record {
   each = λ row c. stays_decided old new row.place goes (was.each row c);
 }
 
--- the rows that are held of decided ones stay the same
+-- which of the decided rows are held does not change
 pub same_held : (old new : Aside) (rows : List Row) → Goes old new → AreDecided old rows
     → filter (is_held (held_blocks new)) rows ≡ filter (is_held (held_blocks old)) rows
 same_held old new rows goes was =

@@ -1,4 +1,4 @@
--- How rows leave the entries.
+-- How rows are dropped from the entries.
 use Rattle.std.specs.Prelude.{ℕ, if◌then◌else◌, List, filter}
 use Rattle.seg_words.specs.Windows.{has}
 use Rattle.apcu_model.specs.Cache.{Row}
@@ -6,15 +6,15 @@ use Rattle.apcu_model.specs.Change.{is_held, leaving, left_of, removed_with, spe
 use Rattle.apcu_model.specs.Expiry.{is_expired}
 use Rattle.entry_slots.specs.Entries.{Entries, chain_of, freed_at}
 
--- the removed rows that nobody copies any more are gone
+-- without the removed rows from which no worker copies any more
 abbrev pub swept_in : List ℕ → Entries → Entries
 swept_in held s = record s { removed = filter (is_held held) s.removed }
 
--- the removed row at this place is gone, where it is not held
+-- without the removed row at this place, if it is not held
 abbrev pub swept_at : List ℕ → ℕ → Entries → Entries
 swept_at held at s = if has at held then s else freed_at at s
 
--- these rows leave the rows, one after the other, as `dropped` of a cache says
+-- without these rows, dropped one after the other, as `dropped` defines it for a cache
 abbrev pub dropped_rows : List ℕ → ℕ → List Row → Entries → Entries
 dropped_rows held t gone s = record s {
   rows = left_of gone s.rows;
@@ -33,6 +33,6 @@ expired_rows t s = leaving s.conf (filter (is_expired s.conf t) s.rows)
 abbrev pub expired_in : ℕ → ℕ → Entries → List Row
 expired_in t slot s = filter (is_expired s.conf t) (chain_of s slot)
 
--- those that go where room is wanted
+-- those that are dropped to make room
 abbrev pub spent_rows : ℕ → Entries → List Row
 spent_rows t s = spent s.conf t s.rows

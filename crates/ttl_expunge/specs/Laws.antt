@@ -1,4 +1,4 @@
--- The laws of this crate, as records that callers hand on.
+-- The laws of this crate, as records that callers pass on.
 use Rattle.apcu_model.specs.Cache.{Row}
 use Rattle.entry_slots.specs.Entries.{Entries}
 use Rattle.entry_slots.specs.Facts.{IsSound}
@@ -8,7 +8,7 @@ use Rattle.std.specs.Prelude.{Contains, List, ℕ, ◌≡◌}
 use Rattle.ttl_expunge.specs.Dropping.{dropped_rows}
 use Rattle.ttl_expunge.specs.ProbedRows.{AreHeld, Drops, KeepsOpen}
 
--- what follows where rows were dropped
+-- what follows when rows were dropped
 pub record DropLaws : Type 0 where
   pub later : (s new : Entries) (before after later : Aside) (t : ℕ) (gone : List Row)
       → Drops s new before after t gone → Goes after later → new

@@ -1,4 +1,4 @@
--- Words on lists of rows.
+-- Definitions on lists of rows.
 use Rattle.std.specs.Prelude.{◌≡◌, ℕ, ◌≤◌, if◌then◌else◌, List, [], ◌∷◌, map, Contains}
 use Rattle.std.specs.List.{count_by}
 use Rattle.apcu_model.specs.Cache.{Row}

@@ -12,7 +12,7 @@ abbrev pub with_found : Option ℕ → ℕ → Entries → Entries
 with_found None n s = s
 with_found (Some at) n s = with_taken at n s
 
--- Room was made and the block taken. The cache is the same by the blocks that are held now, and by
+-- Room was made and the block taken. The cache is the same by the blocks that are held now and by
 -- those that are held after later probes of the event.
 pub record MakesRoom (old new : Entries) (before after : Aside)
     (n t : ℕ) (place : Option ℕ) (full : Bool) : Type 0 where

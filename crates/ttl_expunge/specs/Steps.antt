@@ -1,4 +1,4 @@
--- What a call that lets rows go needs of the entries over words, and what it does.
+-- What a call that drops rows needs of the entries over words, and what it does.
 use Rattle.std.specs.Prelude.{◌≡◌, ℕ, Bool, false, List, Option}
 use Rattle.seg_words.specs.declared.segment.WordsIn.{Ghosts}
 use Rattle.seg_words.specs.Probing.{Met}
@@ -9,49 +9,49 @@ use Rattle.entry_slots.specs.Standing.{Stand, entries}
 use Rattle.ttl_expunge.specs.ProbedRows.{AreRemoved, Sweeps, Drops, Moves}
 use Rattle.ttl_expunge.specs.Room.{MakesRoom}
 
--- Rows may be dropped: the words stand for the entries, and no place is refused but those of
--- removed rows.
+-- Rows may be dropped: the words represent the entries, and only places of removed rows are
+-- refused.
 pub record MayDropRows {X R : Type 0} (g : Ghosts X R) (slots : EntrySlots) (seg : X)
     : Type 0 where
   pub stand : Stand g slots seg
   pub refused : AreRemoved (g.aside seg) (entries slots).removed
 
--- Removed rows may be swept: the words stand for the entries, and no place is refused.
+-- Removed rows may be swept: the words represent the entries, and no place is refused.
 pub record MaySweepRows {X R : Type 0} (g : Ghosts X R) (slots : EntrySlots) (seg : X)
     : Type 0 where
   pub stand : Stand g slots seg
   pub unrefused : (b : ℕ) → has b (g.aside seg).refused ≡ false
 
--- The block at this place was probed. The words stand for the entries as they are now, and all
--- else in the segment is as it was.
+-- The block at this place was probed. The words represent the entries as they are now, and all else
+-- in the segment is unchanged.
 pub record ProbesBlock {X R : Type 0} (g : Ghosts X R) (new : EntrySlots) (before after : X)
     (at : ℕ) : Type 0 where
   pub met : Met (g.aside before) (g.aside after) at
   pub stand : Stand g new after
   pub rest : g.rest after ≡ g.rest before
 
--- So are they where the removed rows were swept.
+-- The same after the removed rows were swept.
 pub record SweepsRows {X R : Type 0} (g : Ghosts X R) (old new : EntrySlots) (before after : X)
     : Type 0 where
   pub sweeps : Sweeps (entries old) (entries new) (g.aside before) (g.aside after)
   pub stand : Stand g new after
   pub rest : g.rest after ≡ g.rest before
 
--- So are they where these rows were dropped.
+-- The same after these rows were dropped.
 pub record DropsRows {X R : Type 0} (g : Ghosts X R) (old new : EntrySlots) (before after : X)
     (t : ℕ) (gone : List Row) : Type 0 where
   pub drops : Drops (entries old) (entries new) (g.aside before) (g.aside after) t gone
   pub stand : Stand g new after
   pub rest : g.rest after ≡ g.rest before
 
--- So are they where those of these rows that are held were moved to the removed ones.
+-- The same after those of these rows that are held were moved to the removed ones.
 pub record MovesRows {X R : Type 0} (g : Ghosts X R) (old new : EntrySlots) (before after : X)
     (t : ℕ) (seen : List Row) : Type 0 where
   pub moves : Moves (entries old) (entries new) (g.aside before) (g.aside after) t seen
   pub stand : Stand g new after
   pub rest : g.rest after ≡ g.rest before
 
--- So are they where room was made and the block taken.
+-- The same after room was made and the block taken.
 pub record MakesRoomIn {X R : Type 0} (g : Ghosts X R) (old new : EntrySlots) (before after : X)
     (n t : ℕ) (place : Option ℕ) (full : Bool) : Type 0 where
   pub made : MakesRoom (entries old) (entries new) (g.aside before) (g.aside after) n t place full

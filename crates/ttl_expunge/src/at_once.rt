@@ -1,4 +1,4 @@
-//! All rows leave at once: only those that somebody still copies are moved one by one.
+//! All rows are dropped at once: only those from which a worker still copies are moved one by one.
 
 ghost use Rattle.std.specs.Prelude.{◌≡◌, ℕ, ◌<◌, ◌≤◌, true, false, take, IfSome};
 ghost use Rattle.seg_words.specs.Kept.{Kept, KeptBeside};
@@ -15,7 +15,7 @@ use crate::expunge::is_let_go;
 use entry_slots::{EntrySlots, standing_laws};
 use seg_words::{Segment, WordsIn};
 
-// Moves the row at `at` to the removed ones, if somebody still copies from its block.
+// Moves the row at `at` to the removed ones, if a worker still copies from its block.
 fn move_if_held<S: Segment>(slots: &mut EntrySlots, seg: &mut S, at: u32, t: u64)
     requires ready { MayDropRows S.WordsIn slots.old seg.old }
     requires there { has_place at (entries slots.old).rows ≡ true }
@@ -30,7 +30,7 @@ fn move_if_held<S: Segment>(slots: &mut EntrySlots, seg: &mut S, at: u32, t: u64
     }
 }
 
-// So for each row of one slot.
+// The same for each row of one slot.
 fn move_held_in<S: Segment>(slots: &mut EntrySlots, seg: &mut S, slot: u32, t: u64)
     requires ready { MayDropRows S.WordsIn slots.old seg.old }
     requires slot { slot < (entries slots.old).conf.slots }
@@ -46,7 +46,7 @@ fn move_held_in<S: Segment>(slots: &mut EntrySlots, seg: &mut S, slot: u32, t: u
     }
 }
 
-// So for each row.
+// The same for each row.
 fn move_held<S: Segment>(slots: &mut EntrySlots, seg: &mut S, t: u64)
     requires ready { MayDropRows S.WordsIn slots.old seg.old }
     ensures { MovesRows S.WordsIn slots.old slots.new seg.old seg.new t
@@ -59,8 +59,8 @@ fn move_held<S: Segment>(slots: &mut EntrySlots, seg: &mut S, t: u64)
     }
 }
 
-// Collects the places of the removed rows in the array, in the order of the rows. It answers how
-// many they are, or `None` where the array is too short.
+// Collects the places of the removed rows in the array, in the order of the rows. Returns their
+// number, or `None` if the array is too short.
 fn removed_places<S: Segment>(
     slots: &EntrySlots,
     seg: &mut S,
@@ -84,7 +84,7 @@ fn removed_places<S: Segment>(
     if at == 0 { Some(64) } else { None }
 }
 
-// Frees all rows beside the removed ones, whose places these are.
+// Frees all rows except the removed ones, whose places are given.
 fn free_beside<S: Segment>(slots: &mut EntrySlots, seg: &mut S, places: &mut [u32])
     requires stand { Stand S.WordsIn slots.old seg.old }
     requires whole { IsWhole (entries slots.old) }
@@ -100,9 +100,10 @@ fn free_beside<S: Segment>(slots: &mut EntrySlots, seg: &mut S, places: &mut [u3
     slots.free_rows_beside(seg, places);
 }
 
-/// Drops all rows, as `expunge_all` does; no block may be loose. Only the rows that somebody still
-/// copies are moved one by one; all other words are made gaps in one step. Where more than 64 rows
-/// are removed then, as it is only where nobody swept them, the rows go one after the other.
+/// Drops all rows, as `expunge_all` does; no block may be loose. Only rows from which a worker
+/// still copies are moved one by one; all other words are made gaps in one step. If more than 64
+/// rows are removed then, which takes a cache that was never swept, the rows are dropped one by
+/// one.
 pub fn expunge_at_once<S: Segment>(slots: &mut EntrySlots, seg: &mut S, t: u64)
     requires ready { MayDropRows S.WordsIn slots.old seg.old }
     requires whole { IsWhole (entries slots.old) }

@@ -23,11 +23,11 @@ use seg_words::{Segment, WordsIn};
 pub(crate) enum DropRule {
     /// All.
     All,
-    /// The expired ones, where this is how long a row without a time of its own lives unused.
+    /// The expired ones. The number is how long a row without a ttl of its own may be unused.
     Expired(u32),
 }
 
-// Whether the row at `at` is dropped. No more of it is read than what decides that.
+// Whether the row at `at` is dropped. It reads only what decides that.
 fn is_dropped<S: Segment>(slots: &EntrySlots, seg: &mut S, at: u32, rule: DropRule, t: u64) -> bool
     requires stand { Stand S.WordsIn slots.now seg.old }
     requires there { has_place at (entries slots.now).rows ≡ true }
@@ -42,8 +42,8 @@ fn is_dropped<S: Segment>(slots: &EntrySlots, seg: &mut S, at: u32, rule: DropRu
     }
 }
 
-// Drops the row at the spot, if it is such a one. It answers the word that names the row behind
-// then.
+// Drops the row at the spot, if the rule says so, and then returns the word that is the place of
+// the next row.
 fn drop_if<S: Segment>(
     slots: &mut EntrySlots,
     seg: &mut S,
@@ -69,7 +69,7 @@ fn drop_if<S: Segment>(
     }
 }
 
-// Drops such rows of one slot, each where the walk along the chain meets it.
+// Drops such rows of one slot, each when the walk along the chain reaches it.
 fn drop_chain<S: Segment>(slots: &mut EntrySlots, seg: &mut S, slot: u32, rule: DropRule, t: u64)
     requires ready { MayDropRows S.WordsIn slots.old seg.old }
     requires slot { slot < (entries slots.old).conf.slots }
@@ -108,7 +108,7 @@ fn drop_all<S: Segment>(slots: &mut EntrySlots, seg: &mut S, rule: DropRule, t: 
     }
 }
 
-/// Drops the expired rows of one slot; `ttl` is the cache's time limit.
+/// Drops the expired rows of one slot; `ttl` is the cache's `apc.ttl`.
 pub fn sweep_chain<S: Segment>(slots: &mut EntrySlots, seg: &mut S, slot: u32, ttl: u32, t: u64)
     requires ready { MayDropRows S.WordsIn slots.old seg.old }
     requires slot { slot < (entries slots.old).conf.slots }
@@ -119,7 +119,7 @@ pub fn sweep_chain<S: Segment>(slots: &mut EntrySlots, seg: &mut S, slot: u32, t
     drop_chain(slots, seg, slot, DropRule::Expired(ttl), t);
 }
 
-/// Drops all expired rows, by slot and by their place in the chain.
+/// Drops all expired rows, by slot and in the order of the chain.
 pub fn expunge_expired<S: Segment>(slots: &mut EntrySlots, seg: &mut S, ttl: u32, t: u64)
     requires ready { MayDropRows S.WordsIn slots.old seg.old }
     requires limit { ttl ≡ (entries slots.old).conf.ttl }
@@ -129,7 +129,7 @@ pub fn expunge_expired<S: Segment>(slots: &mut EntrySlots, seg: &mut S, ttl: u32
     drop_all(slots, seg, DropRule::Expired(ttl), t);
 }
 
-/// Drops all rows, by slot and by their place in the chain.
+/// Drops all rows, by slot and in the order of the chain.
 pub fn expunge_all<S: Segment>(slots: &mut EntrySlots, seg: &mut S, t: u64)
     requires ready { MayDropRows S.WordsIn slots.old seg.old }
     ensures { DropsRows S.WordsIn slots.old slots.new seg.old seg.new t

@@ -1,4 +1,4 @@
-//! Blocks that are given back once nobody copies from them.
+//! Blocks that are freed once no worker copies from them.
 
 ghost use Rattle.std.specs.Prelude.{◌≡◌, ℕ, true, false, not};
 ghost use Rattle.seg_words.specs.Windows.{has, held_blocks};
@@ -13,9 +13,9 @@ ghost use Rattle.ttl_expunge.specs.Steps.{ProbesBlock, SweepsRows, DropsRows};
 use entry_slots::{EntrySlots, Spot, standing_laws, window_laws};
 use seg_words::{Segment, probe_laws};
 
-/// Whether the block of the row or removed row at `at` may be given back, since nobody copies from
+/// Whether the block of the row or removed row at `at` may be freed, because no worker copies from
 /// it any more. It probes the block: after `false` the block is held in this event, and no later
-/// probe changes either answer.
+/// probe changes either result.
 pub fn is_let_go<S: Segment>(slots: &EntrySlots, seg: &mut S, at: u32) -> bool
     requires stand { Stand S.WordsIn slots.now seg.old }
     requires there { has_place at (listed (entries slots.now)) ≡ true }
@@ -29,7 +29,7 @@ pub fn is_let_go<S: Segment>(slots: &EntrySlots, seg: &mut S, at: u32) -> bool
     seg.probe(at)
 }
 
-// Frees the removed row at `at`, unless somebody still copies from its block.
+// Frees the removed row at `at`, unless a worker still copies from its block.
 fn sweep_at<S: Segment>(slots: &mut EntrySlots, seg: &mut S, at: u32)
     requires stand { Stand S.WordsIn slots.old seg.old }
     requires there { has_place at (entries slots.old).removed ≡ true }
@@ -43,7 +43,7 @@ fn sweep_at<S: Segment>(slots: &mut EntrySlots, seg: &mut S, at: u32)
     }
 }
 
-/// Frees each removed row that nobody copies from any more. The others keep their order.
+/// Frees each removed row from which no worker copies any more. The others keep their order.
 pub fn sweep_removed<S: Segment>(slots: &mut EntrySlots, seg: &mut S)
     requires ready { MaySweepRows S.WordsIn slots.old seg.old }
     ensures { SweepsRows S.WordsIn slots.old slots.new seg.old seg.new }
@@ -57,8 +57,8 @@ pub fn sweep_removed<S: Segment>(slots: &mut EntrySlots, seg: &mut S)
     }
 }
 
-/// Drops the row at `at`: it is the last of the removed rows where somebody still copies from its
-/// block, and else it is gone.
+/// Drops the row at `at`: it becomes the last removed row if a worker still copies from its block,
+/// and otherwise it is freed.
 pub fn drop_row<S: Segment>(slots: &mut EntrySlots, seg: &mut S, at: u32, t: u64)
     requires ready { MayDropRows S.WordsIn slots.old seg.old }
     requires there { has_place at (entries slots.old).rows ≡ true }
@@ -75,7 +75,7 @@ pub fn drop_row<S: Segment>(slots: &mut EntrySlots, seg: &mut S, at: u32, t: u64
     }
 }
 
-/// Drops the row at the spot, as `drop_row` does, and walks no chain.
+/// Drops the row at the spot, as `drop_row` does, without a walk along the chain.
 pub fn drop_row_at<S: Segment>(slots: &mut EntrySlots, seg: &mut S, spot: Spot, t: u64)
     requires ready { MayDropRows S.WordsIn slots.old seg.old }
     requires spot { (now : ℕ) × IsSpot (entries slots.old) now spot }

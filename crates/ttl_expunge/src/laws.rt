@@ -1,4 +1,4 @@
-//! What the layers above rely on beside the calls.
+//! What the crates above use besides the calls.
 
 ghost use Rattle.ttl_expunge.specs.Laws.{DropLaws};
 ghost use Rattle.std.specs.Prelude.{◌≡◌, ℕ, List, Contains};
@@ -10,8 +10,8 @@ ghost use Rattle.ttl_expunge.specs.Dropping.{dropped_rows};
 ghost use Rattle.ttl_expunge.specs.ProbedRows.{AreHeld, KeepsOpen, Drops};
 ghost use Rattle.entry_slots.specs.Facts.{IsSound};
 
-/// What follows where rows were dropped: it is so by the blocks that are held after later probes of
-/// the event; the rows under open windows stay, and removed rows that are held stay so.
+/// What follows when rows were dropped: the blocks that are held after later probes of the event
+/// give the same result, the rows under open windows stay, and removed rows that are held stay.
 pub fn drop_laws()
     ensures { DropLaws }
 {}

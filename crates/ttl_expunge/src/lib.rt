@@ -1,5 +1,5 @@
-//! How rows leave the entries in a segment, and how room is made, while others may still copy from
-//! their blocks.
+//! How rows are dropped from a segment's entries, and how room is made, while other workers may
+//! still copy from their blocks.
 #![tactic(auto)]
 
 mod at_once;

@@ -14,8 +14,8 @@ use crate::expunge::sweep_removed;
 use entry_slots::{EntrySlots, standing_laws};
 use seg_words::Segment;
 
-// Drops the expired rows, where the cache has a time limit. Where they are all rows, as where
-// nobody came for a while, all go at once.
+// Drops the expired rows, if the cache has a ttl. If all rows are expired, as after a time without
+// requests, they are dropped in one step.
 fn drop_expired<S: Segment>(slots: &mut EntrySlots, seg: &mut S, ttl: u32, t: u64)
     requires ready { MayDropRows S.WordsIn slots.old seg.old }
     requires limit { ttl ≡ (entries slots.old).conf.ttl }
@@ -32,9 +32,9 @@ fn drop_expired<S: Segment>(slots: &mut EntrySlots, seg: &mut S, ttl: u32, t: u6
     }
 }
 
-/// Makes room for a block of `n` words and takes it: the removed rows are swept; where no gap is
-/// large enough yet, expired rows go; and where none is even then, all rows. The flag tells whether
-/// all rows went.
+/// Makes room for a block of `n` words and takes it. First the removed rows are swept; if no gap is
+/// large enough, expired rows are dropped; and if none is large enough even then, all rows. The
+/// flag is whether all rows were dropped.
 pub fn make_room<S: Segment>(
     slots: &mut EntrySlots,
     seg: &mut S,

@@ -1,4 +1,4 @@
-//! The spot of a key in its chain, of which the expired rows are gone.
+//! The spot of a key in its chain, after the expired rows were dropped from it.
 
 ghost use Rattle.std.specs.Prelude.{◌≡◌, ◌<◌, ◌^◌, length};
 ghost use Rattle.apcu_model.specs.SlotOrder.{slot_of};
@@ -11,8 +11,9 @@ use crate::chains::sweep_chain;
 use entry_slots::{EntrySlots, Spot, standing_laws};
 use seg_words::Segment;
 
-/// Drops the expired rows of a key's slot, and finds where the row of the key stands then. It is
-/// one walk along the chain, and one more where a row went. `limit` is the cache's time limit.
+/// Drops the expired rows of a key's slot, and finds the key's row or the end of its chain. It
+/// takes one walk along the chain, and another one if a row was dropped. `limit` is the cache's
+/// `apc.ttl`.
 pub fn seek_swept<S: Segment>(
     slots: &mut EntrySlots,
     seg: &mut S,
