@@ -1,4 +1,4 @@
--- What a generator's look-ups find, and what became of its value.
+-- What a generator's look-ups find, and what happened to its value.
 use Rattle.std.specs.Prelude.{ℕ, List, [], ◌∷◌, Option, Some, None}
 use Rattle.std.specs.Prelude.{option_map}
 use Rattle.apcu_model.specs.declared.request.StoreAnswer.{StoreAnswer}
@@ -9,7 +9,7 @@ use Rattle.apcu_model.specs.Sequential.{is_stored}
 use Rattle.counter_entry.specs.declared.answer.Fate.{Fate}
 use Rattle.counter_entry.specs.declared.answer.Fate.TheVariants.{Found, Made}
 
--- the row, or else what else there is
+-- the row, or else the other one
 abbrev pub first_row : Option Row → Option Row → Option Row
 first_row (Some row) other = Some row
 first_row None other = other
@@ -23,7 +23,7 @@ row_under (level ∷ levels) t c = first_row (live_row level.key t c) (row_under
 abbrev pub place_under : List EntryLevel → ℕ → Cache → Option ℕ
 place_under levels t c = option_map (λ (row : Row). row.place) (row_under levels t c)
 
--- nothing was to be stored, or the last answer tells whether the value now stands there
+-- nothing was to be stored, or whether the value is now stored, by the last result
 abbrev pub fate_of : Option StoreAnswer → Fate
 fate_of None = Found
 fate_of (Some answer) = Made (is_stored answer)

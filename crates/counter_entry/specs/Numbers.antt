@@ -1,4 +1,4 @@
--- What counting answers.
+-- What counting returns.
 use Rattle.std.specs.Prelude.{ℕ, ℤ, false, List, [], ◌∷◌, Option, Some, None}
 use Rattle.php_graph.specs.declared.kind.Kind.TheVariants as kinds
 use Rattle.apcu_model.specs.declared.request.StoreAnswer.{StoreAnswer}
@@ -33,18 +33,18 @@ abbrev pub found_of : Option Row → Found
 found_of None = Nothing
 found_of (Some row) = found_at row.place (integer_in row.graph)
 
--- what comes of storing a new counter with its step
+-- the result of storing a new counter with its step
 abbrev pub new_counter : List ℕ → List ℕ → ℤ → ℕ → ℕ → Cache → Insertion
 new_counter held key step ttl t c = inserted held key (kinds.Int step ∷ []) ttl false t c
 
--- the step, where it was stored
+-- the step, if it was stored
 abbrev pub begun_answer : ℤ → StoreAnswer → IncAnswer
 begun_answer step answers.Stored = Value step
 begun_answer step answers.TooLarge = NoRoom
 begun_answer step answers.Exists = NoRoom
 begun_answer step answers.NoRoom = NoRoom
 
--- the sum, where there is an integer
+-- the sum, if there is an integer
 abbrev pub sum_answer : ℤ → Option ℤ → IncAnswer
 sum_answer step (Some n) = Value (sum_of n step)
 sum_answer step None = NotInteger
@@ -54,18 +54,18 @@ answer_at held key step ttl t c (Some row) = sum_answer step (integer_in row.gra
 answer_at held key step ttl t c None =
     begun_answer step (new_counter held key step ttl t c).answer
 
--- The row that a look-up finds counts, or a new one. `held` is the list of the places of blocks
--- that are held in this event.
+-- The row that a look-up finds is counted up, or a new one is made. `held` is the list of the
+-- places of blocks that are held in this event.
 abbrev pub inc_answer : List ℕ → List ℕ → ℤ → ℕ → ℕ → Cache → IncAnswer
 inc_answer held key step ttl t c = answer_at held key step ttl t c (live_row key t c)
 
--- the number that it gives, if any
+-- the number that it returns, if any
 abbrev pub number_answered : IncAnswer → Option ℤ
 number_answered (Value n) = Some n
 number_answered NotInteger = None
 number_answered NoRoom = None
 
--- the reply of one thread that it is
+-- the reply of a single-threaded cache that it corresponds to
 abbrev pub reply_of : IncAnswer → Reply
 reply_of (Value n) = replies.Number n
 reply_of NotInteger = replies.NoNumber

@@ -1,4 +1,4 @@
-//! Counting up and down, `apcu_inc` and `apcu_dec`.
+//! Incrementing and decrementing, `apcu_inc` and `apcu_dec`.
 
 ghost use Rattle.std.specs.Prelude.{◌≡◌, ◌<◌, ◌^◌, false, length, IfSome};
 ghost use Rattle.seg_words.specs.Kept.{KeptBeside};
@@ -21,14 +21,14 @@ use cache_core::Core;
 use seg_words::{Segment, WordsIn};
 use std::alloc::Global;
 
-/// Counts by the step at the moment `t`, in seconds: the integer of the row that a look-up of the
-/// key finds and the step, in 64 bits with a sign, where the sum wraps. The row keeps its time to
-/// live, and counts neither a hit nor a miss. Where a look-up finds no row, a new one counts from 0
-/// and lives for `ttl` seconds; 0 is no limit. It takes no memory: `alloc` is for the empty list of
-/// further places that the new value has. Only a new row asks whether anybody copies.
+/// Adds the step at the moment `t`, in seconds, to the integer of the row that a look-up of the key
+/// finds, as signed 64-bit numbers; the sum wraps. The row keeps its time to live, and neither a
+/// hit nor a miss is counted. If a look-up finds no row, a new one counts from 0 and lives for
+/// `ttl` seconds; 0 is no limit. No memory is allocated: `alloc` is for the empty list of further
+/// places that the new value has. Only a new row makes it probe for copies.
 ///
-/// It is the first change of its event, and no window may name a row that holds null, a truth value
-/// or an integer.
+/// It is the first change of its event, and no window may name a row that holds null, a boolean or
+/// an integer.
 pub fn inc<S: Segment>(
     alloc: Global,
     core: &mut Core,
@@ -54,7 +54,7 @@ pub fn inc<S: Segment>(
     inc_in(alloc, core, seg, key, slot, step, ttl, t)
 }
 
-/// The same; `slot` is the key's.
+/// The same; `slot` is that of the key.
 pub fn inc_in<S: Segment>(
     alloc: Global,
     core: &mut Core,
@@ -100,7 +100,7 @@ fn answer(step: i64, stored: StoreAnswer) -> IncAnswer
     }
 }
 
-// A new counter, which counts the step from 0; `slot` is the key's.
+// A new counter, which counts the step from 0; `slot` is that of the key.
 fn begin<S: Segment>(
     alloc: Global,
     core: &mut Core,

@@ -1,4 +1,4 @@
-//! Values by generators: found under one of their keys, or made and stored under those that missed.
+//! Values of generators: found under one of their keys, or made and stored under those that missed.
 
 ghost use Rattle.std.specs.Prelude.{◌≡◌, ◌<◌, ◌≤◌, ◌^◌, ◌||◌, true, false, List, length, take};
 ghost use Rattle.std.specs.Prelude.{IfOk, IfNone};
@@ -21,33 +21,33 @@ use php_graph::Graph;
 use seg_words::{Segment, WordsIn};
 use std::alloc::{AllocError, Global};
 
-// What the look-ups of a generator's keys come to.
+// The result of looking up a generator's keys.
 #[derive(Drop)]
 struct Origin {
-    // a copy of the value that it gives
+    // a copy of the generator's value
     value: Graph,
-    // how many of its keys missed, from outside in
+    // how many of its keys missed, from the outermost inwards
     missing: u32,
-    // the place of the row that was found under the next one
+    // the place of the row that was found under the next key
     at: Option<u32>,
 }
 
-// What storing under a generator's keys has come to.
+// The result of storing under a generator's keys.
 #[derive(Clone, Copy)]
 struct Progress {
-    // the last answer, if anything was to be stored
+    // the last result, if anything was to be stored
     last: Option<StoreAnswer>,
     // whether the removed rows were swept in this event
     swept: bool,
 }
 
-/// Gives the value of a generator at the moment `t`, in seconds, as PHP's `apcu_entry` does: its
-/// keys are looked up from outside in, as far as a row is found. The value is that row's, or else
-/// the literal inside. Each key that missed counts a miss, and the one that was found a hit. Then
-/// the value is stored under the keys that missed, the innermost first, each with its own time to
-/// live and never over a live row.
+/// Returns the value of a generator at the moment `t`, in seconds, as PHP's `apcu_entry` does: its
+/// keys are looked up from the outermost inwards, until a row is found. The value is that row's, or
+/// else the innermost literal. Each key that missed counts a miss, and the one that was found a
+/// hit. Then the value is stored under the keys that missed, the innermost first, each with its own
+/// time to live, and never over a live row.
 ///
-/// The value is copied before the first change: where memory is missing for it, nothing changed. It
+/// The value is copied before the first change: if there is no memory for it, nothing changed. It
 /// is the first change of its event.
 pub fn entry<S: Segment>(
     alloc: Global,
@@ -70,7 +70,7 @@ pub fn entry<S: Segment>(
     Ok((origin.value, fate(progress.last)))
 }
 
-// Looks the keys of a generator up from outside in, as far as a row is found, and copies the value.
+// Looks up the keys of a generator from the outermost inwards, until a row is found, and copies it.
 fn look_through<S: Segment>(
     alloc: Global,
     core: &Core,
@@ -114,7 +114,7 @@ fn look_through<S: Segment>(
     }
 }
 
-// Counts the look-ups: so many missed, and the row at this place was found, if there is one.
+// Counts the look-ups: `missing` misses, and a hit of the row at this place, if there is one.
 fn count_lookups<S: Segment>(core: &mut Core, seg: &mut S, missing: u32, at: Option<u32>, t: u64)
     requires stand { CacheStands S.WordsIn core.old seg.old }
     requires there { (levels : List EntryLevel)
@@ -171,7 +171,7 @@ fn fill<S: Segment>(
     }
 }
 
-// Stores the value under a key where no live row has it.
+// Stores the value under a key if no live row has it.
 fn insert<S: Segment>(
     core: &mut Core,
     seg: &mut S,
@@ -196,14 +196,14 @@ fn insert<S: Segment>(
     }
 }
 
-// Whether the removed rows were swept, now that a value was stored with this answer.
+// Whether the removed rows are swept by now, if a value was stored with this result.
 fn has_swept(before: bool, answer: StoreAnswer) -> bool
     ensures { result ≡ (before || makes_room answer) }
 {
     before || answer == StoreAnswer::NoRoom || answer == StoreAnswer::Stored
 }
 
-// What became of a value, by the last answer of storing it.
+// What happened to a value, by the last result of storing it.
 fn fate(last: Option<StoreAnswer>) -> Fate
     ensures { result ≡ fate_of last }
 {

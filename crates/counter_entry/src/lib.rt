@@ -1,5 +1,5 @@
-//! Counters, compare-and-swap and values by generators, on the cache over words. What is counted or
-//! set takes no memory; of a generator's value one copy is made.
+//! Counters, compare-and-swap and values of generators, on the cache over words. Counting and
+//! setting allocate no memory; a generator's value is copied once.
 #![tactic(auto)]
 
 mod answer;

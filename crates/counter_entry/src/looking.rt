@@ -1,4 +1,4 @@
-//! The look-up that counting and swapping begin with.
+//! The look-up with which counting and swapping begin.
 
 ghost use Rattle.std.specs.Prelude.{◌≡◌, ◌<◌, ◌^◌, length};
 ghost use Rattle.seg_words.specs.Kept.{Kept};
@@ -21,7 +21,7 @@ pub(crate) enum Found {
     Integer(u32, i64),
 }
 
-// Looks a key up at the moment t, without a use; `slot` is the key's.
+// Looks a key up at the moment t, without counting it as a use; `slot` is that of the key.
 pub(crate) fn look_for<S: WordsIn>(core: &Core, seg: &mut S, key: &[u8], slot: u32, t: u64) -> Found
     requires short { length key.now < 2 ^ 32 }
     requires slot { slot ≡ slot_of core.now.conf key.now }

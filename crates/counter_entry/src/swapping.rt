@@ -1,4 +1,4 @@
-//! Setting an integer that is the expected one, `apcu_cas`.
+//! Replacing an integer that is the expected one, `apcu_cas`.
 
 ghost use Rattle.std.specs.Prelude.{◌≡◌, ◌<◌, ◌^◌, false, length};
 ghost use Rattle.seg_words.specs.Kept.{KeptBeside};
@@ -13,10 +13,11 @@ use crate::looking::{Found, look_for};
 use cache_core::Core;
 use seg_words::{Segment, WordsIn};
 
-/// Sets the integer under the key at the moment `t`, in seconds, where a look-up finds a row that
-/// holds `expect`; whether it does. It never makes a row, and counts neither a hit nor a miss.
+/// Sets the integer under the key at the moment `t`, in seconds, if a look-up finds a row that
+/// holds `expect`, and returns whether it did. It never makes a row, and counts neither a hit nor a
+/// miss.
 ///
-/// No window may name a row that holds null, a truth value or an integer.
+/// No window may name a row that holds null, a boolean or an integer.
 pub fn cas<S: Segment>(
     core: &mut Core,
     seg: &mut S,
@@ -37,7 +38,7 @@ pub fn cas<S: Segment>(
     cas_in(core, seg, key, slot, expect, set, t)
 }
 
-/// The same; `slot` is the key's.
+/// The same; `slot` is that of the key.
 pub fn cas_in<S: Segment>(
     core: &mut Core,
     seg: &mut S,
