@@ -1,4 +1,4 @@
-//! What is told of the cache.
+//! Information about the cache.
 
 ghost use Rattle.std.specs.Prelude.{◌≡◌, ℕ, IfOk};
 ghost use Rattle.apcu_model.specs.Infos.{cache_info_of};
@@ -12,12 +12,12 @@ use php_graph::Graph;
 use seg_words::{Segment, WordsIn};
 use std::alloc::{AllocError, Global};
 
-/// Tells of the cache as `apcu_cache_info` does: its shape, what it counts and its rows, those
-/// whose time is over too. Unless `limited`, the rows are listed by slot and place, and then the
-/// removed rows in the order in which they were dropped. Nothing changes.
+/// Reports on the cache as `apcu_cache_info` does: its shape, its counters and its rows, expired
+/// ones included. Unless `limited`, the rows are listed by slot and place, and then the removed
+/// rows in the order in which they were dropped. Nothing changes.
 ///
-/// It takes as long as there are slots and rows, where `limited` as long as there are removed rows.
-/// Want of memory is the only refusal.
+/// It takes time in proportion to the slots and rows or, if `limited`, to the removed rows. Out of
+/// memory is the only error.
 pub fn cache_info<S: Segment>(
     alloc: Global,
     core: &mut Core,

@@ -1,4 +1,4 @@
-//! What is told of one entry.
+//! Information about one entry.
 
 ghost use Rattle.std.specs.Prelude.{◌≡◌, true, IfOk};
 ghost use Rattle.seg_words.specs.Kept.{Kept};
@@ -15,7 +15,7 @@ use php_graph::Bytes;
 use seg_words::{Segment, WordsIn};
 use std::alloc::{AllocError, Global};
 
-// What the first words of an entry say beside its key and its value.
+// What the first words of an entry contain besides its key and its value.
 pub(crate) fn info(head: Head) -> RowInfo
     ensures { result ≡ info_in head }
 {
@@ -30,7 +30,7 @@ pub(crate) fn info(head: Head) -> RowInfo
     }
 }
 
-// What its head tells of the entry at a place.
+// What the head of the entry at a place contains.
 pub(crate) fn info_at<S: Segment>(slots: &EntrySlots, seg: &mut S, at: u32) -> RowInfo
     requires stand { Stand S.WordsIn slots.now seg.old }
     requires there { has_place at (listed (entries slots.now)) ≡ true }
@@ -40,7 +40,7 @@ pub(crate) fn info_at<S: Segment>(slots: &EntrySlots, seg: &mut S, at: u32) -> R
     info(slots.head(seg, at))
 }
 
-// The key of the entry at a place, and what its head tells.
+// The key of the entry at a place, and what its head contains.
 pub(crate) fn listed_at<S: Segment>(
     alloc: Global,
     slots: &EntrySlots,

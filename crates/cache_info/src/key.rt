@@ -1,4 +1,4 @@
-//! What is told of a key.
+//! Information about a key.
 
 ghost use Rattle.std.specs.Prelude.{◌≡◌, ◌<◌, ◌^◌, length, IfOk};
 ghost use Rattle.apcu_model.specs.Infos.{key_info_of};
@@ -12,11 +12,11 @@ use php_graph::Graph;
 use seg_words::{Segment, WordsIn};
 use std::alloc::{AllocError, Global};
 
-/// Tells of the row that a look-up of the key at the moment `t`, in seconds, finds, as
-/// `apcu_key_info` does; `None` exactly where it finds none, as for a row whose own time is over.
+/// Reports on the row that a look-up of the key at the moment `t`, in seconds, finds, as
+/// `apcu_key_info` does; `None` exactly if it finds none, as for a row whose own ttl has expired.
 /// Nothing is counted, and the row is not used.
 ///
-/// Want of memory is the only refusal.
+/// Out of memory is the only error.
 pub fn key_info<S: Segment>(
     alloc: Global,
     core: &mut Core,

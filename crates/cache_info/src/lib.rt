@@ -1,4 +1,5 @@
-//! What the cache over words tells of a key, of itself and of its segment. Nothing changes by it.
+//! Information about a key, the cache and its segments, read from the cache over words. Nothing
+//! changes.
 #![tactic(auto)]
 
 mod cache;

@@ -13,7 +13,7 @@ use entry_slots::{EntrySlots, standing_laws};
 use seg_words::{Segment, WordsIn};
 use std::alloc::{AllocError, Global};
 
-// The rows of a slot come behind those that are listed.
+// Appends the rows of a slot to the list.
 fn list_chain<S: Segment>(
     alloc: Global,
     slots: &EntrySlots,

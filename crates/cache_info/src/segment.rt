@@ -1,4 +1,4 @@
-//! What is told of the segments.
+//! Information about the segments.
 
 ghost use Rattle.std.specs.Prelude.{◌≡◌, ℕ, sum_by, IfOk};
 ghost use Rattle.seg_words.specs.declared.gaps.Extent.{Extent};
@@ -34,11 +34,11 @@ fn list_gaps<S: Segment>(alloc: Global, sma: &Sma, seg: &mut S) -> Result<Vec<Ex
     Ok(list)
 }
 
-/// Tells of the segments as `apcu_sma_info` does, in bytes: how many there are, how much each has,
-/// how much of all is free, and unless `limited` the gaps of each by rising place. The gaps between
+/// Reports on the segments as `apcu_sma_info` does, in bytes: their number, the size of each, the
+/// free bytes of all and, unless `limited`, the gaps of each by rising place. The gaps between
 /// blocks count, however small each is. Nothing changes.
 ///
-/// It takes as long as there are gaps. Want of memory is the only refusal.
+/// It takes time in proportion to the gaps. Out of memory is the only error.
 pub fn sma_info<S: Segment>(
     alloc: Global,
     core: &mut Core,
