@@ -1,4 +1,4 @@
--- The text that tells what stands in the words of a cache.
+-- The text of a cache's map.
 use Rattle.std.specs.Prelude.{ℕ, ◌^◌, Bool, true, false, if◌then◌else◌, nat_le, List, [], ◌++◌}
 use Rattle.std.specs.Prelude.{length, sum_by, codes}
 use Rattle.std.specs.List.{flat_map, range_with_len}
@@ -20,7 +20,7 @@ abbrev pub key_end : ℕ → List ℕ → List ℕ
 key_end number key =
     decimal number ++ codes " " ++ written_key (int_of_text key) key ++ codes "\n"
 
--- what a line of a row begins with, or of a removed one
+-- the first word of a row's line, or of a removed row's
 abbrev pub row_word : Bool → List ℕ
 row_word gone = if gone then codes "removed " else codes "row "
 
@@ -51,8 +51,8 @@ power_line runs k = if nat_le (2 ^ k) (largest_of runs) then fits_line runs (2 ^
 abbrev pub fits_text : List Extent → List ℕ
 fits_text runs = flat_map (power_line runs) (range_with_len 4 28)
 
--- what the free runs come to: their words, the longest of them, how many there are, and how many
--- blocks of each power of two fit into them
+-- the sums over the free runs: their words, the longest of them, their number, and how many blocks
+-- of each power of two fit into them
 abbrev pub free_text : List Extent → List ℕ
 free_text runs =
     number_line (codes "free words ") (sum_by (λ (run : Extent). run.size) runs)
@@ -60,7 +60,7 @@ free_text runs =
     ++ (number_line (codes "runs ") (length runs)
     ++ fits_text runs))
 
--- the map: a line for all that stands there by rising place, and what the free runs come to
+-- the map: a line for each block and free run by rising place, and the sums over the free runs
 abbrev pub map_text : Cache → List ℕ
 map_text c =
     codes "map\n"

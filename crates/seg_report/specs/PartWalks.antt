@@ -13,7 +13,7 @@ use Rattle.notation.specs.Appending.{Extends}
 use Rattle.seg_report.specs.Lines.{part_line}
 use Rattle.seg_report.specs.Parts.{gaps_in, parts_between}
 
--- From `a` up to `b` the blocks of the rows and the runs begin where the tiles say.
+-- From `a` up to `b` the blocks of the rows and the runs begin where the tiles begin.
 pub record AreTiled (rows removed : List Row) (runs : List Extent) (a b : ℕ) (ps : List Tile)
     : Type 0 where
   pub blocks : (w : ℕ) → a ≤ w → w < b → (test : Extent → Bool)
@@ -26,7 +26,7 @@ abbrev pub first_of : List Extent → Option Extent
 first_of [] = None
 first_of (run ∷ runs) = Some run
 
--- a gap as the allocator answers it
+-- a gap as the allocator returns it
 abbrev pub pair_of : Extent → ℕ × ℕ
 pair_of run = (run.place, run.size)
 
@@ -49,7 +49,7 @@ lines_from ws s at =
     flat_map part_line
     (parts_between s.rows s.removed (gaps_in s.conf s.rows s.removed) at (length ws))
 
--- The walk went over one part, of so many words, and its line was appended.
+-- The walk went over one part, of this number of words, and its line was appended.
 pub record WalksOn (ws : List ℕ) (s : Entries) (from at : ℕ) (old new : List ℕ) (size : ℕ)
     (gap : Option (ℕ × ℕ)) : Type 0 where
   pub next : IsAtPart ws s from (at + size) gap

@@ -1,4 +1,4 @@
-//! What the gaps between blocks come to.
+//! Sums over the gaps between blocks.
 
 ghost use Rattle.std.specs.Prelude.{◌≡◌, ◌<◌, ◌≤◌, ◌++◌, length, OnOk, OnErr};
 ghost use Rattle.seg_words.specs.Kept.{Kept};
@@ -14,7 +14,8 @@ use seg_words::{Segment, WordsIn};
 use sma_blocks::Sma;
 use std::alloc::AllocError;
 
-// How many blocks of `n` words the gaps hold, each cut up by itself, and how many gaps there are.
+// How many blocks of `n` words the gaps hold, if each is divided separately, and the number of
+// gaps.
 pub(crate) fn count_gaps<S: Segment>(sma: &Sma, seg: &mut S, n: u32) -> (u32, u32)
     requires some { 1 ≤ n }
     requires ready { IsReady sma.now (S.words seg.old) (S.aside seg.old) }
@@ -34,7 +35,7 @@ pub(crate) fn count_gaps<S: Segment>(sma: &Sma, seg: &mut S, n: u32) -> (u32, u3
     (blocks, gaps)
 }
 
-// What the free runs come to.
+// The sums over the free runs.
 pub(crate) fn put_free<S: Segment>(
     sma: &Sma,
     seg: &mut S,
@@ -53,7 +54,7 @@ pub(crate) fn put_free<S: Segment>(
     put_fits(sma, seg, out)
 }
 
-// How many blocks fit of so many words as a power of two is, unless it is above the largest gap.
+// How many blocks of this power of two of words fit, unless it is above the largest gap.
 fn put_power<S: Segment>(
     sma: &Sma,
     seg: &mut S,
@@ -75,7 +76,7 @@ fn put_power<S: Segment>(
     put_pair(out, b"fits ", n, blocks)
 }
 
-// How many blocks of each power of two fit.
+// How many blocks of each power of two of words fit.
 fn put_fits<S: Segment>(sma: &Sma, seg: &mut S, out: &mut ByteOut) -> Result<(), AllocError>
     requires ready { IsReady sma.now (S.words seg.old) (S.aside seg.old) }
     ensures ok { OnOk result (out.new ≡ out.old

@@ -1,4 +1,5 @@
-//! The map of a cache's words: what stands where, and what would still fit. Nothing changes by it.
+//! The map of a cache's words: what is at each place, and what would still fit. Nothing changes by
+//! it.
 #![tactic(auto)]
 
 mod gaps;

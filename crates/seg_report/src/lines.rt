@@ -1,4 +1,4 @@
-//! The lines of a map, each appended whole.
+//! The lines of a map, each appended as a whole.
 
 ghost use Rattle.std.specs.Prelude.{◌≡◌, ◌++◌, codes, OnOk, OnErr};
 ghost use Rattle.std.specs.Fmt.{decimal};
@@ -9,7 +9,7 @@ use itoa::Buffer;
 use notation::{ByteOut, write_key};
 use std::alloc::AllocError;
 
-// A word, a number and what ends it.
+// A word, a number and the end of the line.
 fn put_number(out: &mut ByteOut, word: &[u8], n: u64, end: &[u8]) -> Result<(), AllocError>
     ensures ok { OnOk result (out.new ≡ out.old ++ (word.now ++ (decimal n ++ end.now))) }
     ensures err { OnErr result (Extends out.old out.new) }
@@ -28,7 +28,7 @@ pub(crate) fn put_count(out: &mut ByteOut, word: &[u8], n: u64) -> Result<(), Al
     put_number(out, word, n, b"\n")
 }
 
-// A word, two numbers and what ends them.
+// A word, two numbers and the end of the line.
 fn put_two(
     out: &mut ByteOut,
     word: &[u8],
@@ -68,7 +68,7 @@ fn put_key(out: &mut ByteOut, number: u64, key: &[u8]) -> Result<(), AllocError>
     out.push(b"\n")
 }
 
-// What a line of a row's block begins with, or of that of a removed row.
+// The first word of the line of a row's block, or of a removed row's.
 fn word_for(gone: bool) -> &'static [u8]
     ensures { result.now ≡ row_word gone }
 {

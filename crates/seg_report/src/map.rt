@@ -16,9 +16,9 @@ use seg_words::{Segment, WordsIn};
 use std::alloc::{AllocError, Global};
 
 /// Appends the map of the cache's words: the line `map`, a line for the block of each row and each
-/// removed row and for each run of free words by rising place, all in words, and what the free runs
-/// come to. No window may be open. Without memory `out` stays as it was; nothing else changes
-/// either way. Keys are read into memory of `out`'s allocator.
+/// removed row and for each run of free words by rising place, all in words, and the sums over the
+/// free runs. No window may be open. If memory runs out, `out` is unchanged; nothing else changes
+/// in either case. Keys are read into memory of `out`'s allocator.
 ///
 /// Each row and removed row is read once, and the places of the removed rows are sorted. The gaps
 /// are walked for their lines, for their number, and once more for each power of two from 16 up to

@@ -1,4 +1,4 @@
-//! The lines of what stands in the words, by rising place.
+//! The lines of all blocks and free runs, by rising place.
 
 ghost use Rattle.std.specs.Prelude.{◌≡◌, ◌<◌, ◌++◌, true, List, length, OnOk, OnErr, IfOk};
 ghost use Rattle.std.specs.List.{flat_map};
@@ -41,7 +41,7 @@ fn removed_places<S: Segment>(
     Ok(places)
 }
 
-// The line of the entry at a place. Answers how many words its block has.
+// The line of the entry at a place. Returns the number of words of its block.
 fn put_row<S: Segment>(
     alloc: Global,
     slots: &EntrySlots,
@@ -82,8 +82,8 @@ fn size_if_at(gap: Option<(u32, u32)>, at: u32) -> u32
     }
 }
 
-// The line of the block or the gap at a place, before the next gap or of it. Answers how many words
-// it has, and the next gap behind it.
+// The line of the block at a place or of the gap that begins there; `gap` is the next gap. Returns
+// the number of its words, and the gap after it.
 fn put_part<S: Segment>(
     alloc: Global,
     slots: &EntrySlots,
@@ -112,7 +112,7 @@ fn put_part<S: Segment>(
     Ok((put_row(alloc, slots, seg, removed, at, out)?, gap))
 }
 
-// The lines of all blocks and gaps, by rising place. One begins where the one before ends.
+// The lines of all blocks and gaps, by rising place. Each begins where the one before ends.
 fn put_all<S: Segment>(
     alloc: Global,
     slots: &EntrySlots,
@@ -139,7 +139,7 @@ fn put_all<S: Segment>(
     Ok(())
 }
 
-// The lines of all that stands in the words.
+// The lines of all blocks and free runs in the words.
 pub(crate) fn put_parts<S: Segment>(
     alloc: Global,
     slots: &EntrySlots,

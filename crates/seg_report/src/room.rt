@@ -13,8 +13,9 @@ use seg_words::{Segment, WordsIn, fit_laws};
 /// How many blocks of `n` words can be taken one after the other, until none fits any more. Nothing
 /// changes.
 ///
-/// Each takes the least place where it fits inside one segment, so that this many come of cutting
-/// up each run of free words by itself. It takes as long as there are gaps, and no memory.
+/// Each is taken at the lowest place where it fits inside one segment, so the number is the sum
+/// over the free runs, each divided separately. It takes time in proportion to the gaps, and no
+/// memory.
 pub fn fits<S: Segment>(core: &mut Core, seg: &mut S, n: u32) -> u32
     requires size { (n % 2 ≡ 0) × (2 ≤ n) }
     requires stand { CacheStands S.WordsIn core.old seg.old }
