@@ -1,4 +1,4 @@
--- Which rows an iterator gives.
+-- Which rows an iterator returns.
 use Rattle.std.specs.Prelude.{ℕ, ◌&&◌, not, Bool, false, List, filter, map, Option}
 use Rattle.apcu_model.specs.declared.searching.Pattern.{Pattern}
 use Rattle.apcu_model.specs.declared.searching.List.{List as RowList}
@@ -18,7 +18,7 @@ pub record Choice : Type 0 where
   pub list : RowList
   pub t : ℕ
 
--- the row is left out, since its own time is over: so it is of the active ones alone
+-- the row is skipped because its own ttl has expired; this happens only in the list of active rows
 abbrev pub is_skipped_in : RowList → ℕ → Row → Bool
 is_skipped_in Active t row = is_hard_expired t row
 is_skipped_in Deleted t row = false
@@ -26,15 +26,15 @@ is_skipped_in Deleted t row = false
 abbrev pub is_left_out : Choice → Row → Bool
 is_left_out choice row = is_skipped_in choice.list choice.t row
 
--- an iterator gives the row
+-- an iterator returns the row
 abbrev pub is_chosen : Choice → Row → Bool
 is_chosen choice row = not (is_left_out choice row) && key_matches choice.pattern row.key
 
--- what it gives of rows
+-- what it returns of rows
 abbrev pub chosen_items : Choice → Fields → List Row → List ItemRow
 chosen_items choice fields rows = map (item_of fields) (filter (is_chosen choice) rows)
 
--- the places of the rows that it gives
+-- the places of the rows that it returns
 abbrev pub chosen_places : Choice → List Row → List ℕ
 chosen_places choice rows = row_places (filter (is_chosen choice) rows)
 

@@ -1,4 +1,4 @@
-//! What is read of one entry.
+//! Reading one entry for an iterator.
 
 ghost use Rattle.std.specs.Prelude.{◌≡◌, ℕ, ◌+◌, ◌<◌, ◌≤◌, ◌^◌, true, false, List, length, Some};
 ghost use Rattle.std.specs.Prelude.{None, if◌then◌else◌, IfOk, MatchOption};
@@ -23,10 +23,10 @@ use seg_words::{Segment, WordsIn};
 use std::alloc::{AllocError, Global};
 use value_image::unpersist;
 
-/// The bit of `Fields` that asks for the value.
+/// The bit of `Fields` that selects the value.
 const VALUE: u16 = 2;
 
-// The value whose image the head names, if it is asked for.
+// The value whose image the head names, if it is selected.
 fn read_value<W: WordsIn>(
     alloc: Global,
     from: &mut W,
@@ -46,7 +46,7 @@ fn read_value<W: WordsIn>(
     Ok(Some(unpersist(alloc, from, head.image, head.image_len)?))
 }
 
-// What is given of a row of which this was read.
+// The item of a row of which this was read.
 fn item(key: Vec<u8>, value: Option<Graph>, head: Head) -> ItemRow
     requires short { length key.items < 2 ^ 32 }
     ensures { result ≡ record {
@@ -74,7 +74,7 @@ fn item(key: Vec<u8>, value: Option<Graph>, head: Head) -> ItemRow
     }
 }
 
-// What is given of the row at a place, if it is chosen.
+// The item of the row at a place, if the row is chosen.
 pub fn item_at<S: Segment>(
     alloc: Global,
     slots: &EntrySlots,
@@ -104,8 +104,8 @@ pub fn item_at<S: Segment>(
     Ok(Some(item(key, value, head)))
 }
 
-// What the first words of the row at a place say, if it is chosen. Where each key matches, none is
-// read.
+// The first words of the row at a place, if it is chosen. The key is read only if not each key
+// matches.
 pub fn head_at<S: Segment>(
     slots: &EntrySlots,
     seg: &mut S,

@@ -1,4 +1,4 @@
-//! What apcu_iter stands on.
+//! Searching rows by key for iterators: the base of apcu_iter.
 #![tactic(auto)]
 
 mod entry;

@@ -1,4 +1,4 @@
-//! What makes a regex of a pattern.
+//! Compiling patterns into regexes.
 
 ghost use Rattle.std.specs.Prelude.{◌≡◌, true, IfOk, IfErr};
 ghost use Rattle.apcu_model.specs.PatternMatches.{FindsAs, is_pattern};
@@ -14,7 +14,7 @@ use thiserror::Error;
 /// Why there is no search for a pattern.
 #[derive(Error, Clone, Copy, PartialEq, Eq, Debug)]
 pub enum SearchFault {
-    /// The text is not UTF-8, or `regex` reads no pattern there, or one that nests too deep.
+    /// The text is not UTF-8, or is no pattern for `regex`, or one that nests too deep.
     #[error("no pattern")]
     BadPattern,
     /// The text is a pattern, and its maker refuses it.
@@ -36,16 +36,16 @@ impl From<AllocError> for SearchFault {
     }
 }
 
-/// Makes a regex of a pattern.
+/// Compiles a pattern into a regex.
 pub trait Maker {
     ghost use Rattle.std.specs.Prelude.{ℕ, Bool, List};
 
-    /// That a pattern with this flag and text may be refused though it is one.
+    /// A pattern with this flag and text may be refused although it is valid.
     ghost may_refuse: { Self → Bool → List ℕ → Type 0 };
 
-    /// A regex that finds something in just the keys that the pattern matches.
+    /// A regex that finds something in exactly the keys that the pattern matches.
     ///
-    /// `BadPattern` comes only where the text is no pattern, and `TooBig` only where this maker may
+    /// Returns `BadPattern` only if the text is no pattern, and `TooBig` only if this maker may
     /// refuse it.
     fn build(&self, alloc: Global, pattern: &Pattern) -> Result<Regex, SearchFault>
         ensures good { IfOk result (λ _. is_pattern pattern.now.fold pattern.now.text ≡ true) }
@@ -57,7 +57,7 @@ pub trait Maker {
             → may_refuse self.now pattern.now.fold pattern.now.text) };
 }
 
-/// Makes regexes by `regex`, within its limit on their size.
+/// Compiles patterns by `regex`, within its limit on their size.
 pub struct RegexMaker;
 
 impl Maker for RegexMaker {

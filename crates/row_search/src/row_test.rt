@@ -1,4 +1,4 @@
-//! Tests of rows, by their time and their keys.
+//! Testing rows by their times and their keys.
 
 ghost use Rattle.std.specs.Prelude.{◌≡◌, IfOk, is_some};
 ghost use Rattle.regex.specs.Bytes.{matcher_pattern};
@@ -19,7 +19,7 @@ pub struct Live<'r> {
     ghost finds: { FindsAs pattern.now.fold pattern.now.text (matcher_pattern matcher) },
 }
 
-// Tests rows for a search, without a fault. Contracts see which rows are chosen.
+// Tests rows for a search; cannot fail. Contracts see which rows are chosen.
 #[derive(Drop)]
 pub struct RowTest<'r> {
     pub live: Option<Live<'r>>,
@@ -44,7 +44,7 @@ impl<'r> Model for RowTest<'r> {
 impl<'r> RowTest<'r> {
     ghost use Rattle.row_search.specs.Choices.{is_left_out};
 
-    // Where keys that are only tested are read to.
+    // The allocator for keys that are only tested.
     pub fn alloc(&self) -> Global {
         self.alloc
     }
@@ -56,7 +56,7 @@ impl<'r> RowTest<'r> {
         self.live.is_some()
     }
 
-    // Whether a row with this head is left out, since its time is over.
+    // Whether a row with this head is skipped, because it has expired.
     pub fn leaves_out(&self, head: Head) -> bool
         ensures { (row : Row) → head.ttl ≡ row.ttl → head.ctime ≡ row.ctime
             → result ≡ is_left_out self.now row }

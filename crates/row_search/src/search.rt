@@ -24,7 +24,7 @@ pub struct Needle {
 
 /// A search for the keys that a pattern matches, or for every key. Contracts see the pattern.
 pub struct Search {
-    // A regex is large, and a search is handed on by value also where there is none.
+    // A regex is large, and a search is passed by value even if it has none.
     needle: Option<Box<Needle>>,
     alloc: Global,
 }
@@ -47,7 +47,7 @@ impl Model for Search {
     ghost view = { λ s. option_map (λ n. n.value.pattern) s.needle };
 }
 
-// Equal text, with the same flag.
+// The same text, with the same flag.
 fn copy_of(alloc: Global, pattern: &Pattern) -> Result<Pattern, AllocError>
     ensures { IfOk result (λ p. p ≡ pattern.now) }
 {
@@ -78,10 +78,10 @@ fn built<M: Maker>(alloc: Global, maker: &M, pattern: &Pattern) -> Result<Box<Ne
 impl Search {
     ghost use Rattle.row_search.specs.Choices.{Choice};
 
-    /// A search for the pattern, or without one for every key. It keeps a copy of the pattern, and
+    /// A search for the pattern or, without one, for every key. It keeps a copy of the pattern, and
     /// the allocator, from which matching takes its memory.
     ///
-    /// `BadPattern` comes only where the text is no pattern, and `TooBig` only where the maker may
+    /// Returns `BadPattern` only if the text is no pattern, and `TooBig` only if the maker may
     /// refuse it.
     pub fn new<M: Maker>(
         alloc: Global,
@@ -111,7 +111,7 @@ impl Search {
         }
     }
 
-    // A test of the rows of a list at the moment t. It makes the matcher, for all of them.
+    // A test of the rows of a list at the moment t. It makes one matcher for all of them.
     pub fn test(&self, list: List, t: u64) -> Result<RowTest<'_>, AllocError>
         ensures { IfOk result (λ test. test ≡ record { pattern = self.now; list = list; t = t }) }
     {
