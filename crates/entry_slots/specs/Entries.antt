@@ -1,5 +1,5 @@
--- What entries in hash chains stand for: the rows and removed rows of a cache, and the blocks that
--- are in no list for a while; and how the calls change them.
+-- What entries in hash chains represent: the rows and removed rows of a cache, and the blocks that
+-- are temporarily in no list; and how the calls change them.
 use Rattle.std.specs.Prelude.{◌≡◌, ℕ, ◌<◌, ◌==◌, not, if◌then◌else◌, List, [], ◌∷◌, ◌++◌, length}
 use Rattle.std.specs.Prelude.{map, filter, find, Contains, ℤ, Option, Some, None, option_map}
 use Rattle.seg_words.specs.declared.gaps.Extent.{Extent}
@@ -24,7 +24,7 @@ pub record Entries : Type 0 where
   pub next_number : ℕ
   -- rows that were taken out of their chain, and are not removed or freed yet
   pub unlinked : List Row
-  -- blocks that were taken, and are no row's yet
+  -- blocks that were taken, and belong to no row yet
   pub taken : List Extent
 
 -- no row, in a segment of this shape
@@ -38,7 +38,7 @@ no_entries conf = record {
   taken = [];
 }
 
--- the entries of a cache, where no block is loose
+-- the entries of a cache in which no block is loose
 abbrev pub entries_of : Cache → Entries
 entries_of c = record {
   conf = c.conf;
@@ -70,7 +70,7 @@ abbrev pub blocks_of : Entries → List Extent
 blocks_of s =
     map extent_of s.rows ++ (map extent_of s.removed ++ (map extent_of s.unlinked ++ s.taken))
 
--- the least place at which n words fit beside all blocks and inside one segment
+-- the lowest place at which n words fit outside all blocks and inside one segment
 abbrev pub place_for : ℕ → Entries → Option ℕ
 place_for n s = first_fit s.conf.slots s.conf.words (piece_of s.conf) n (blocks_of s)
 
@@ -95,7 +95,7 @@ pub record HoldsInt (s : Entries) (at : ℕ) : Type 0 where
 abbrev pub FollowsInChain : Entries → ℕ → ℕ → Type 0
 FollowsInChain s at next = (slot : ℕ) → slot < s.conf.slots → FollowsIn (chain_of s slot) at next
 
--- a block more that is no row's
+-- one more block that belongs to no row
 abbrev pub with_taken : ℕ → ℕ → Entries → Entries
 with_taken at n s = record s { taken = record { place = at; size = n } ∷ s.taken }
 
@@ -124,12 +124,12 @@ found_place (Some row) = row.place
 abbrev pub place_of : List ℕ → Entries → Option ℕ
 place_of key s = option_map (λ (row : Row). row.place) (find (has_key key) s.rows)
 
--- the same, or 0 where there is none
+-- the same, or 0 if there is none
 abbrev pub old_place : List ℕ → Entries → ℕ
 old_place key s = found_place (find (has_key key) s.rows)
 
--- A new row in the block at `at`, which was taken: it stands in the place of the row of its key,
--- whose block is loose now, or last where there is none.
+-- A new row in the block at `at`, which was taken: it replaces the row of its key, whose block is
+-- loose now, or is last if there is none.
 abbrev pub linked : ℕ → List ℕ → List Kind → ℕ → ℕ → Entries → Entries
 linked at key graph ttl t s = record s {
   rows = with_row (stored_row key graph ttl t at s.next_number) s.rows;
@@ -149,7 +149,7 @@ unlinked_at at s = record s {
 abbrev pub dated_row : ℕ → ℕ → Row → Row
 dated_row at t row = if is_at at row then (record row { dtime = t }) else row
 
--- the unlinked row at this place gets its moment
+-- the unlinked row at this place is dated
 abbrev pub dated_at : ℕ → ℕ → Entries → Entries
 dated_at at t s = record s { unlinked = map {A = Row} {B = Row} (dated_row at t) s.unlinked }
 
@@ -167,36 +167,36 @@ moved_at at s = record s {
   unlinked = without_place at s.unlinked;
 }
 
--- the row at this place is no removed one any more, and its block is not given back yet
+-- the row at this place is not a removed one any more, and its block is not freed yet
 abbrev pub off_at : ℕ → Entries → Entries
 off_at at s = record s {
   removed = without_place at s.removed;
   unlinked = only_at at s.removed ++ s.unlinked;
 }
 
--- the unlinked row at this place is gone, and so is its block
+-- the unlinked row at this place and its block were freed
 abbrev pub given_at : ℕ → Entries → Entries
 given_at at s = record s { unlinked = without_place at s.unlinked }
 
--- the unlinked or removed row at this place is gone, and so is its block
+-- the unlinked or removed row at this place and its block were freed
 abbrev pub freed_at : ℕ → Entries → Entries
 freed_at at s = record s {
   removed = without_place at s.removed;
   unlinked = without_place at s.unlinked;
 }
 
--- the row at this place leaves the rows, and is the last of the removed ones
+-- the row at this place is not a row any more, and is the last of the removed ones
 abbrev pub dropped_at : ℕ → ℕ → Entries → Entries
 dropped_at at t s = record s {
   rows = without_place at s.rows;
   removed = s.removed ++ map {A = Row} (λ row. record row { dtime = t }) (only_at at s.rows);
 }
 
--- the row at this place is gone, and so is its block
+-- the row at this place and its block were freed
 abbrev pub gone_at : ℕ → Entries → Entries
 gone_at at s = record s { rows = without_place at s.rows }
 
--- all rows are gone, and so are their blocks
+-- all rows and their blocks were freed
 abbrev pub without_rows : Entries → Entries
 without_rows s = record s { rows = [] }
 

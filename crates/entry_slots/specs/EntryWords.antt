@@ -17,7 +17,7 @@ head_words key g new_head =
 abbrev pub entry_words : List ℕ → List Kind → NewHead → List ℕ
 entry_words key g new_head = head_words key g new_head ++ (words_of key ++ image_of g)
 
--- a key of so many bytes stands there
+-- a key of this many bytes is there
 pub record IsEntryKey (words : List ℕ) (at len : ℕ) (key : List ℕ) : Type 0 where
   pub stands : StandsAt words at (words_of key)
   pub bytes : AreBytes key

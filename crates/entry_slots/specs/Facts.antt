@@ -1,4 +1,4 @@
--- What follows from it that words stand for entries.
+-- What follows when words represent entries.
 use Rattle.std.specs.Prelude.{◌≡◌, ◌⊎◌, ℕ, ◌+◌, ◌<◌, ◌≤◌, true, false, List, ◌++◌, length}
 use Rattle.std.specs.Prelude.{slice_index, count_by, Contains}
 use Rattle.seg_words.specs.declared.gaps.Extent.{Extent}
@@ -11,24 +11,24 @@ use Rattle.apcu_model.specs.Rows.{are_apart}
 use Rattle.entry_slots.specs.Lists.{is_at, begins_at, has_place, first_place, place_after}
 use Rattle.entry_slots.specs.Entries.{Entries, chain_of, listed, unlinked_at}
 
--- each block that a new window names, an old one named
+-- each block that a new window names was named by an old one
 abbrev pub OnlyClose : Aside → Aside → Type 0
 OnlyClose old new = (at : ℕ) → is_named new.windows at ≡ true → is_named old.windows at ≡ true
 
--- each other block than the one at `at`
+-- each block except the one at `at`
 abbrev pub OnlyOpensAt : ℕ → Aside → Aside → Type 0
 OnlyOpensAt at old new =
     (x : ℕ) → is_named new.windows x ≡ true → (x ≡ at) ⊎ (is_named old.windows x ≡ true)
 
--- they are one, or no word is in both
+-- they are the same, or no word is in both
 abbrev pub LieApart : Extent → Extent → Type 0
 LieApart one other =
     (one ≡ other)
     ⊎ ((one.place + one.size ≤ other.place) ⊎ (other.place + other.size ≤ one.place))
 
--- What is so of all entries that words stand for: the shape is one that a cache may have, no two
--- rows have one key, no place begins two blocks, no row or removed row is at 0, and each of them
--- may be probed.
+-- What holds of all entries that words represent: the shape is one that a cache may have, no two
+-- rows have the same key, no two blocks begin at one place, no row or removed row is at 0, and each
+-- of them may be probed.
 pub record IsSound (s : Entries) (words windows : List ℕ) : Type 0 where
   pub usable : IsUsable s.conf
   pub apart : are_apart s.rows ≡ true
@@ -39,7 +39,7 @@ pub record IsSound (s : Entries) (words windows : List ℕ) : Type 0 where
   pub probed : (at : ℕ) → has_place at (listed s) ≡ true → MayProbe words windows at
 
 -- A worker may copy from the block at `at`: its pin count is 0, its key and image lie inside the
--- words and meet no other block that a window names, and the words of its image are told.
+-- words and overlap no other block that a window names, and the words of its image are told.
 pub record IsCopyable (words windows : List ℕ) (at : ℕ) : Type 0 where
   pub positive : 0 < at
   pub zero_count : slice_index words (at + PIN_COUNT) ≡ 0
@@ -48,7 +48,7 @@ pub record IsCopyable (words windows : List ℕ) (at : ℕ) : Type 0 where
       → (at ≡ b) ⊎ ((image_end words at ≤ b) ⊎ (image_end words b ≤ at))
   pub told : (i : ℕ) → image_place words at ≤ i → i < image_end words at → IsTold windows i
 
--- A walk along the chain of a slot stands at this row: it has passed `front`, and `back` follows.
+-- A walk along the chain of a slot is at this row: it has passed `front`, and `back` follows.
 pub record IsAtRow (s : Entries) (slot : ℕ) (front : List Row) (row : Row) (back : List Row)
     : Type 0 where
   pub positive : 0 < row.place
@@ -58,5 +58,5 @@ pub record IsAtRow (s : Entries) (slot : ℕ) (front : List Row) (row : Row) (ba
   pub passed : has_place row.place front ≡ false
   pub ahead : has_place row.place back ≡ false
   pub next : place_after row.place (chain_of s slot) ≡ first_place back
-  -- and that is what is left of the chain without the row
+  -- the chain without the row
   pub unlinked : chain_of (unlinked_at row.place s) slot ≡ front ++ back

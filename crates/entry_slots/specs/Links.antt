@@ -1,4 +1,4 @@
--- The words by which a chain is held together.
+-- The words that link a chain.
 use Rattle.std.specs.Prelude.{◌≡◌, ◌⊎◌, ℕ, ◌+◌, true, List, [], ◌∷◌, ◌++◌, slice_index}
 use Rattle.apcu_model.specs.Cache.{Row}
 use Rattle.entry_slots.specs.declared.head.TheConstants.{NEXT}
@@ -6,13 +6,13 @@ use Rattle.entry_slots.specs.Lists.{has_place}
 use Rattle.entry_slots.specs.Entries.{Entries, chain_of}
 use Rattle.entry_slots.specs.Standing.{IsRowChain}
 
--- the word that names what follows these rows, in a chain that begins at the word `first`
+-- the word that names the row after these rows, in a chain that begins at the word `first`
 abbrev pub link_after : ℕ → List Row → ℕ
 link_after first [] = first
 link_after first (row ∷ rows) = link_after (row.place + NEXT) rows
 
--- The word `link` of the chain that begins at the word `first` names the row at `target`; where
--- that is 0, it is the chain's last word.
+-- The word `link` of the chain that begins at the word `first` names the row at `target`; if that
+-- is 0, it is the chain's last word.
 pub record IsLinkTo (words : List ℕ) (first : ℕ) (chain : List Row) (target link : ℕ) : Type 0 where
   pub front : List Row
   pub back : List Row
@@ -25,8 +25,8 @@ pub record IsLinkTo (words : List ℕ) (first : ℕ) (chain : List Row) (target 
 abbrev pub IsTarget : Entries → ℕ → ℕ → Type 0
 IsTarget s slot target = (target ≡ 0) ⊎ (has_place target (chain_of s slot) ≡ true)
 
--- The list of removed rows begins beside the words. The word `link` of it names the row at
--- `target`, or where that is 0 it is the list's last word; link 0 is what begins the list.
+-- The head of the list of removed rows is kept outside the words. Its word `link` names the row at
+-- `target`, or if that is 0 it is the list's last word; link 0 is the head of the list.
 pub record IsRemovedLink (words : List ℕ) (removed : List Row) (target link : ℕ) : Type 0 where
   pub front : List Row
   pub back : List Row

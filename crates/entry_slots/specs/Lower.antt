@@ -7,7 +7,7 @@ use Rattle.value_image.specs.Laws.{BytesArePacked, ImagesAreRuns, RunsAreWritten
 use Rattle.apcu_model.specs.Laws.{RowsStayApart}
 
 pub record Laws : Type 0 where
-  -- blocks stay where words inside them change
+  -- blocks are unchanged when words inside them change
   pub blocks : (sma : Sma) (old new : List ℕ) (aside : Aside) → IsReady sma old aside
       → ChangesInner sma old new aside → Stays sma old new aside
   pub rows : RowsStayApart

@@ -19,15 +19,15 @@ use Rattle.entry_slots.specs.Entries.{Entries, IsListed, chain_of, listed}
 use Rattle.entry_slots.specs.Standing.{Stands}
 use Rattle.entry_slots.specs.Facts.{IsSound, IsAtRow}
 
--- ---- what the laws promise of all entries that stand
+-- ---- what the laws promise of all entries that are represented
 
--- no place is there twice, and none is 0
+-- no two are at one place, and none is at 0
 abbrev pub AllAreSound : Type 0
 AllAreSound =
     (e : EntrySlots) (words : List ℕ) (aside : Aside) (s : Entries)
     → Stands e words aside s → IsSound s words aside.windows
 
--- a walk along a chain stands at each of its rows
+-- a walk along a chain is at each of its rows
 abbrev pub AllAreWalked : Type 0
 AllAreWalked =
     (e : EntrySlots) (words : List ℕ) (aside : Aside) (s : Entries) (slot : ℕ)
@@ -36,7 +36,7 @@ AllAreWalked =
 
 -- ---- lists
 
--- what is left of a list after so many rows begins with this row
+-- the part of a list after this many rows begins with this row
 pub record IsLeft (rows : List Row) (passed at : ℕ) : Type 0 where
   pub row : Row
   pub place : row.place ≡ at
@@ -69,7 +69,7 @@ left_here (r ∷ rs) (suc p) at is some =
       there = Contains-later r rs i.row i.there;
     }
 
--- no row is at 0, so where 0 comes next none is left
+-- no row is at 0, so if 0 comes next none is left
 pub left_none : (rows : List Row) (passed : ℕ) → has_place 0 rows ≡ false
     → 0 ≡ first_place (drop passed rows) → drop passed rows ≡ []
 left_none [] passed none is = drop_none passed
@@ -81,7 +81,7 @@ left_none (r ∷ rs) (suc p) none is =
     (false_from_ne_true (has_place 0 rs) (λ t.
     false≢true (sym none ∙ or_right (is_at 0 r) (has_place 0 rs) t))) is
 
--- what follows a row
+-- the row after a row
 pub next_is : (front back : List Row) (row : Row)
     → count_by (is_at row.place) (front ++ row ∷ back) ≤ 1
     → place_after row.place (front ++ row ∷ back) ≡ first_place back

@@ -1,4 +1,4 @@
--- Where a walk along a chain has found the row of a key.
+-- How a walk along a chain has found the row of a key.
 use Rattle.std.specs.Prelude.{◌≡◌, ℕ, ◌<◌, List, ◌++◌}
 use Rattle.std.specs.List.{list_any}
 use Rattle.apcu_model.specs.Cache.{Row}
@@ -9,8 +9,8 @@ use Rattle.entry_slots.specs.Lists.{first_place}
 use Rattle.entry_slots.specs.Entries.{Entries, chain_of, old_place}
 use Rattle.entry_slots.specs.Links.{link_after}
 
--- The spot is behind the rows `front` of its chain: the link is the word that names what follows
--- them, `at` is the place of that row, or 0, and it tells whether one of the rows in front is
+-- The spot is after the rows `front` of its chain: the link is the word that names the row after
+-- them, `at` is the place of that row, or 0, and `stale` is whether one of the rows in front is
 -- expired at the moment t.
 pub record IsSpot (s : Entries) (t : ℕ) (spot : Spot) : Type 0 where
   pub front : List Row
@@ -21,8 +21,8 @@ pub record IsSpot (s : Entries) (t : ℕ) (spot : Spot) : Type 0 where
   pub at_is : spot.at ≡ first_place back
   pub stale_is : spot.stale ≡ list_any (is_expired s.conf t) front
 
--- It is the spot of the key: in the chain of its slot, at its row, or at the end where no row has
--- the key.
+-- It is the spot of the key: in the chain of its slot, at its row, or at the end if no row has the
+-- key.
 pub record IsSpotOf (s : Entries) (key : List ℕ) (t : ℕ) (spot : Spot) : Type 0 where
   pub in_chain : IsSpot s t spot
   pub slot_is : spot.slot ≡ slot_of s.conf key

@@ -1,4 +1,4 @@
--- When words stand for entries.
+-- When words represent entries.
 use Rattle.std.specs.Prelude.{◌≡◌, ℕ, ◌+◌, ◌<◌, ◌^◌, true, false, List, [], ◌∷◌, length}
 use Rattle.std.specs.Prelude.{slice_index, Contains}
 use Rattle.seg_words.specs.declared.gaps.Extent.{Extent}
@@ -24,13 +24,13 @@ use Rattle.entry_slots.specs.Lists.{HaveSame}
 use Rattle.entry_slots.specs.Entries.{Entries, chain_of, blocks_of}
 
 -- From the block at `at` on, each head names the place of the next block: these rows, in their
--- order. The last one's is 0.
+-- order. That of the last one is 0.
 abbrev pub IsRowChain : List ℕ → ℕ → List Row → Type 0
 IsRowChain words at [] = at ≡ 0
 IsRowChain words at (row ∷ rows) =
     (at ≡ row.place) × IsRowChain words (slice_index words (row.place + NEXT)) rows
 
--- The block of a row: its size, the lengths of its key and its image, what is noted of it, and its
+-- The block of a row: its size, the lengths of its key and its image, its times and counts, and its
 -- pin count, which is 0; then its key, eight bytes a word, the first byte lowest, and its image.
 pub record IsEntry (words : List ℕ) (row : Row) : Type 0 where
   pub size : slice_index words row.place ≡ row.size
@@ -50,7 +50,7 @@ pub record IsEntry (words : List ℕ) (row : Row) : Type 0 where
   pub bytes : AreBytes row.key
   pub short_ttl : row.ttl < 2 ^ 32
 
--- so is each of these rows
+-- the same for each of these rows
 abbrev pub AreEntries : List ℕ → List Row → Type 0
 AreEntries words rows = (row : Row) → Contains rows row → IsEntry words row
 
@@ -59,13 +59,13 @@ abbrev pub AreUnnamed : List ℕ → List Extent → Type 0
 AreUnnamed windows blocks =
     (block : Extent) → Contains blocks block → is_named windows block.place ≡ false
 
--- The words, with what is kept beside them, stand for the entries.
+-- The words, with what is kept outside them, represent the entries.
 pub record Stands (e : EntrySlots) (words : List ℕ) (aside : Aside) (s : Entries) : Type 0 where
   -- each slot word begins the chain of the rows of its slot
   pub chains : (slot : ℕ) → slot < s.conf.slots
       → IsRowChain words (slice_index words slot) (chain_of s slot)
   pub removed_chain : IsRowChain words e.removed s.removed
-  -- the rows' blocks are as the rows say
+  -- the rows' blocks contain the rows
   pub rows : AreEntries words s.rows
   pub removed : AreEntries words s.removed
   pub unlinked : AreEntries words s.unlinked
@@ -73,7 +73,7 @@ pub record Stands (e : EntrySlots) (words : List ℕ) (aside : Aside) (s : Entri
   -- and with the blocks that were taken they are all the live blocks
   pub ready : IsReady e.sma words aside
   pub blocks : HaveSame (live_blocks words e.sma.bounds.from) (blocks_of s)
-  -- no two rows have one key
+  -- no two rows have the same key
   pub apart : are_apart s.rows ≡ true
   pub number : e.next_number ≡ s.next_number
   pub count : e.count ≡ length s.rows
@@ -83,15 +83,15 @@ pub record Stands (e : EntrySlots) (words : List ℕ) (aside : Aside) (s : Entri
   pub to : e.sma.bounds.to ≡ s.conf.words
   pub piece : e.sma.bounds.piece ≡ piece_of s.conf
 
--- the entries that are kept beside the words
+-- the entries that are kept outside the words
 abbrev pub entries : EntrySlots → Entries
 entries e = e.standing.state
 
--- the words stand for them
+-- the words represent them
 abbrev pub Stand : {X R : Type 0} → Ghosts X R → EntrySlots → X → Type 0
 Stand g e seg = Stands e (g.words seg) (g.aside seg) (entries e)
 
--- some words stand for them
+-- some words represent them
 pub record IsStanding (e : EntrySlots) : Type 0 where
   pub words : List ℕ
   pub aside : Aside

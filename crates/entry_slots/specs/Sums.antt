@@ -1,4 +1,4 @@
--- What the rows of all slots come to: facts that proofs of the crates above cite.
+-- Sums over the rows of all slots: facts that proofs of the crates above cite.
 use Rattle.std.proofs.Common.{◌≡◌, ◌∙◌, ◌⊎◌, inl, inr, ℕ, zero, suc, ◌+◌, ◌<◌, ◌≤◌, ◌==◌}
 use Rattle.std.proofs.Common.{List, [], ◌∷◌, filter, refl, sym, ap}
 use Rattle.std.proofs.Common.{arith, mod-lt, eq-or-lt_of_le}
@@ -11,7 +11,7 @@ use Rattle.apcu_model.specs.declared.conf.Conf.{Conf}
 use Rattle.apcu_model.specs.Cache.{Row}
 use Rattle.apcu_model.specs.SlotOrder.{slot_of, is_in_slot, in_slot_order}
 
--- what the rows of the slots from n on come to
+-- the sum over the rows of the slots from n on
 abbrev pub slot_sum : (Row → ℕ) → Conf → List Row → ℕ → ℕ → ℕ
 slot_sum f conf rows n k =
     sum_by f (flat_map (λ slot. filter (is_in_slot conf slot) rows) (range_with_len n k))
@@ -92,7 +92,7 @@ no_rows : (f : Row → ℕ) (conf : Conf) (n k : ℕ) → slot_sum f conf [] n k
 no_rows f conf n zero = refl
 no_rows f conf n (suc k) = no_rows f conf (n + 1) k
 
--- each row stands in one slot
+-- each row is in one slot
 pub all_slots : (f : Row → ℕ) (conf : Conf) (rows : List Row) → 0 < conf.slots
     → sum_by f (in_slot_order conf rows) ≡ sum_by f rows
 all_slots f conf [] some = no_rows f conf 0 conf.slots

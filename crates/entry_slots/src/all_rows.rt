@@ -1,4 +1,4 @@
-//! The shape of the slots, how many rows there are and how many words they take, and caches without
+//! The shape of the slots, the number of rows and of the words that they take, and caches without
 //! rows.
 
 ghost use Rattle.std.specs.Prelude.{◌≡◌, ℕ, ◌<◌, ◌≤◌, ◌*◌, false, length, slice_index};
@@ -42,7 +42,7 @@ impl EntrySlots {
         }
     }
 
-    /// How many slots there are.
+    /// The number of slots.
     pub fn slots(&self) -> u32
         requires stand { IsStanding self.now }
         ensures slots { result ≡ (entries self.now).conf.slots }
@@ -50,7 +50,7 @@ impl EntrySlots {
         self.sma.bounds.from
     }
 
-    /// How many words the segment has.
+    /// The number of words of the segment.
     pub fn words(&self) -> u32
         requires stand { IsStanding self.now }
         ensures words { result ≡ (entries self.now).conf.words }
@@ -58,14 +58,14 @@ impl EntrySlots {
         self.sma.bounds.to
     }
 
-    /// The allocator, for what is told of the gaps.
+    /// The allocator, for information about the gaps.
     pub fn sma(&self) -> &Sma
         ensures { result.now ≡ self.now.sma }
     {
         &self.sma
     }
 
-    /// How many rows there are.
+    /// The number of rows.
     pub fn rows(&self) -> u32
         requires stand { IsStanding self.now }
         ensures rows { result ≡ length (entries self.now).rows }
@@ -73,10 +73,11 @@ impl EntrySlots {
         self.count
     }
 
-    /// How many words the blocks of all rows have. No block may be loose.
+    /// The number of words in the blocks of all rows. No block may be loose.
     ///
-    /// Blocks and gaps fill the words behind the slots, so these are what the gaps and the removed
-    /// rows leave of them: it takes as long as there are removed rows, however many rows there are.
+    /// Blocks and gaps fill the words after the slots, so these are the words that are in no gap
+    /// and no removed row: it takes time in proportion to the removed rows, however many rows there
+    /// are.
     pub fn row_words<S: Segment>(&self, seg: &mut S) -> u32
         requires stand { Stand S.WordsIn self.now seg.old }
         requires whole { IsWhole (entries self.now) }
@@ -94,7 +95,7 @@ impl EntrySlots {
     }
 }
 
-// Ends the chain of each slot at its slot word.
+// Ends the chain of each slot at the slot's word.
 fn end_chains<S: Segment>(seg: &mut S, slots: u32)
     requires inside { slots ≤ length (S.words seg.old) }
     requires closed { (at : ℕ) → is_named (S.aside seg.old).windows at ≡ false }

@@ -1,4 +1,4 @@
-//! All rows leave at once, beside removed ones that stay.
+//! Drops all rows at once, and keeps the removed ones.
 
 ghost use Rattle.std.specs.Prelude.{◌≡◌, ℕ, ◌+◌, ◌<◌, ◌≤◌, true, false, length, slice_index};
 ghost use Rattle.seg_words.specs.Kept.{KeptBeside};
@@ -15,10 +15,10 @@ use seg_words::Segment;
 use sma_blocks::block_laws;
 
 impl EntrySlots {
-    /// All rows leave at once, and the blocks of the removed rows stay: `kept` are their places,
+    /// Drops all rows at once, and keeps the blocks of the removed rows: `kept` are their places,
     /// each greater than the one before. No block may be loose, and no window may name a row's
-    /// block. It takes as long as there are slots, gaps and removed rows, however many rows there
-    /// are.
+    /// block. It takes time in proportion to the slots, gaps and removed rows, however many rows
+    /// there are.
     pub fn free_rows_beside<S: Segment>(&mut self, seg: &mut S, kept: &[u32])
         requires stand { Stand S.WordsIn self.old seg.old }
         requires whole { IsWhole (entries self.old) }
@@ -39,7 +39,7 @@ impl EntrySlots {
         self.standing = self.standing.then(&Change::Clear);
     }
 
-    // Ends the chain of each slot at its slot word, whatever windows are open.
+    // Ends the chain of each slot at the slot's word, whatever windows are open.
     fn end_all<S: Segment>(&self, seg: &mut S)
         requires ready { IsReady self.now.sma (S.words seg.old) (S.aside seg.old) }
         requires inside { self.now.sma.bounds.from ≤ length (S.words seg.old) }

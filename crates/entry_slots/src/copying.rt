@@ -1,4 +1,4 @@
-//! Keys that are read out of their entries.
+//! Copying keys from their entries.
 
 ghost use Rattle.std.specs.Prelude.{◌≡◌, ◌<◌, ◌^◌, true, length, IfOk};
 ghost use Rattle.seg_words.specs.Kept.{Kept};
@@ -14,8 +14,8 @@ use std::alloc::{AllocError, Global};
 use value_image::get_bytes;
 
 impl EntrySlots {
-    /// A copy of the key of the entry at a place, which has `len` bytes, as the entry's head says.
-    /// Want of memory is the only refusal.
+    /// A copy of the key of the entry at a place, which has `len` bytes according to the entry's
+    /// head. Out of memory is the only error.
     pub fn copy_key<S: Segment>(
         &self,
         alloc: Global,

@@ -1,4 +1,4 @@
-//! Looking a key up by what is known beside the words, without the entries.
+//! Looking up a key without the entries, from what is known besides the words.
 
 ghost use Rattle.std.specs.Prelude.{◌≡◌, ◌<◌, ◌%◌, ◌^◌, length};
 ghost use Rattle.seg_words.specs.Kept.{Kept};
@@ -12,13 +12,13 @@ use crate::keys::slot_in;
 use crate::reading::{first_of, has_key_at, next_of};
 use seg_words::WordsIn;
 
-/// What a look-up needs to know beside the words of a segment. It is good until a row comes or
-/// goes.
+/// What a look-up needs to know besides the words of a segment. It is valid until a row is added or
+/// removed.
 #[derive(Clone, Copy, Debug)]
 pub struct Finder {
-    /// How many slots there are.
+    /// The number of slots.
     pub slots: u32,
-    /// How many rows there are.
+    /// The number of rows.
     pub rows: u32,
 }
 
@@ -31,7 +31,8 @@ impl Finder {
         slot_in(hash, self.slots)
     }
 
-    /// The block of the row of this key, `None` exactly if no row has it; `slot` is the key's.
+    /// The block of the row of this key, `None` exactly if no row has it; `slot` is that of the
+    /// key.
     pub fn find<S: WordsIn>(self, seg: &mut S, key: &[u8], slot: u32) -> Option<u32>
         requires short { length key.now < 2 ^ 32 }
         requires finds { (e : EntrySlots) × Finds S.WordsIn e self seg.old

@@ -34,8 +34,8 @@ fn few_bytes(bytes: &[u8]) -> u64
     low + u64::from(bytes[2]) * 0x1_0000
 }
 
-// The word of fewer than eight bytes. To gather them into eight bytes first takes longer than to
-// read four of them, two and one.
+// The word of fewer than eight bytes. Gathering them into eight bytes first takes longer than
+// reading four of them, two and one.
 fn short_word(bytes: &[u8]) -> u64
     requires { length bytes.now < 8 }
     ensures { result ≡ little_number 8 bytes.now }
@@ -48,7 +48,7 @@ fn short_word(bytes: &[u8]) -> u64
 }
 
 // The word of a key's eight bytes from byte `8 * i` on, the first byte lowest; past the end they
-// are 0. Where fewer are left, the last eight bytes of the key are read at once, and those before
+// are 0. If fewer are left, the last eight bytes of the key are read at once, and those before are
 // shifted out.
 pub(crate) fn key_word(key: &[u8], i: u32) -> u64
     requires { i < words_in (length key.now) }
@@ -64,8 +64,8 @@ pub(crate) fn key_word(key: &[u8], i: u32) -> u64
     LittleEndian::read_u64(&key[key.len() - 8..]) >> (64 - 8 * rest.len())
 }
 
-// The word that has byte `i` of those that stand from a place on. Where that byte is not its first,
-// it is the word of the byte before, and is not loaded again.
+// The word that has byte `i` of those from a place on. Unless that byte is the first of a word, it
+// is the word of the byte before, and is not loaded again.
 fn word_of_byte<S: Segment>(seg: &mut S, at: u32, i: u32, word: u64) -> u64
     requires inside { at + i / 8 < length (S.words seg.old) }
     requires told { IsTold (S.aside seg.old).windows (at + i / 8) }
@@ -80,7 +80,7 @@ fn word_of_byte<S: Segment>(seg: &mut S, at: u32, i: u32, word: u64) -> u64
     }
 }
 
-// PHP's string hash of the key of so many bytes that stands from a place on.
+// PHP's string hash of the key of `len` bytes that begins at a place.
 pub(crate) fn hash_at<S: Segment>(seg: &mut S, at: u32, len: u32) -> u64
     requires inside { at + words_in len ≤ length (S.words seg.old) }
     requires told { (i : ℕ) → at ≤ i → i < at + words_in len → IsTold (S.aside seg.old).windows i }
@@ -97,8 +97,8 @@ pub(crate) fn hash_at<S: Segment>(seg: &mut S, at: u32, len: u32) -> u64
     hash | TOP_BIT
 }
 
-// The slot of a hash among so many slots. A division is much of a look-up's time: for the usual
-// number of slots the compiler makes a mask of it.
+// The slot of a hash, if there are this many slots. A division is a large part of a look-up's time:
+// for the usual number of slots the compiler turns it into a mask.
 pub(crate) fn slot_in(hash: u64, slots: u32) -> u32
     requires some { 0 < slots }
     ensures slot { result ≡ hash % slots }

@@ -1,4 +1,4 @@
-//! What the layers above rely on beside the calls.
+//! What the crates above use besides the calls.
 
 ghost use Rattle.entry_slots.specs.Laws.{StandingLaws, WindowLaws};
 ghost use Rattle.std.specs.Prelude.{◌≡◌, ◌≢◌, ℕ, ◌<◌, ◌≤◌, ◌+◌, true, false, List, [], ◌∷◌, ◌++◌};
@@ -16,21 +16,21 @@ ghost use Rattle.entry_slots.specs.Standing.{Stands};
 ghost use Rattle.entry_slots.specs.Facts.{OnlyClose, OnlyOpensAt, LieApart, IsCopyable, IsSound};
 ghost use Rattle.entry_slots.specs.Facts.{IsAtRow};
 
-/// Words stand for the same entries where windows close and the mask and the refused places change
-/// in any way, and where a window opens on the block of a row or a removed row.
+/// Words represent the same entries after windows close and the mask and the refused places change
+/// in any way, and after a window opens on the block of a row or a removed row.
 pub fn window_laws()
     ensures { WindowLaws }
 {}
 
-/// No place begins two blocks, and none of a row or a removed row is 0; each of these may be
-/// probed, whatever the windows, and may be copied from. All blocks lie apart inside the words. So
-/// a walk along a chain meets each place once.
+/// No two blocks begin at the same place, and no row or removed row is at 0; each of these may be
+/// probed, whatever the windows, and may be copied from. All blocks are disjoint and inside the
+/// words. So a walk along a chain reaches each place once.
 pub fn standing_laws()
     ensures { StandingLaws }
 {}
 
-/// A row that is unlinked and then removed or freed has left the rows, and nothing else has
-/// changed. Its chain is shorter from the first step on.
+/// A row that is unlinked and then removed or freed is no longer one of the rows, and nothing else
+/// has changed. Its chain is shorter from the first step on.
 pub fn leaving_laws()
     ensures drops { (e : EntrySlots) (words : List ℕ) (aside : Aside) (s : Entries) (at t : ℕ)
         → Stands e words aside s → has_place at s.rows ≡ true
@@ -42,8 +42,8 @@ pub fn leaving_laws()
         → length (chain_of (unlinked_at at s) slot) < length (chain_of s slot) }
 {}
 
-/// Which places rows have: those of the rows of a list and no others. So the one that was found by
-/// its key, the first one, the next one, each of a chain, and the one that was unlinked.
+/// Which places rows have: those of the rows of a list and no others. The same for the one that was
+/// found by its key, the first one, the next one, each of a chain, and the one that was unlinked.
 pub fn place_laws()
     ensures member { (rows : List Row) (row : Row) → Contains rows row
         → has_place row.place rows ≡ true }

@@ -16,8 +16,8 @@ use crate::slots::EntrySlots;
 use seg_words::{HEAD_WORDS, IMAGE_LENGTH, WordsIn, words_in};
 
 impl EntrySlots {
-    /// Whether the own time of the entry at a place is over at the moment `t`, in seconds: a
-    /// look-up does not find it. The moment of its creation is read only where it has such a time.
+    /// Whether the own ttl of the entry at a place has expired at the moment `t`, in seconds: a
+    /// look-up does not find it. The moment of its creation is read only if it has a ttl.
     pub fn is_hard_expired<S: WordsIn>(&self, seg: &mut S, at: u32, t: u64) -> bool
         requires stand { Stand S.WordsIn self.now seg.old }
         requires there { has_place at (listed (entries self.now)) ≡ true }
@@ -28,9 +28,9 @@ impl EntrySlots {
         hard_expired_at(seg, at, t)
     }
 
-    /// Whether the own time of the entry at a place is over at the moment `t` or, where it has
-    /// none, it was not used for longer than `limit`, the cache's, both in seconds. Only the moment
-    /// that decides it is read.
+    /// Whether the own ttl of the entry at a place has expired at the moment `t` or, if it has
+    /// none, it was not used for longer than `limit`, the cache's ttl, both in seconds. Only the
+    /// moment that decides it is read.
     pub fn is_expired<S: WordsIn>(&self, seg: &mut S, at: u32, limit: u32, t: u64) -> bool
         requires stand { Stand S.WordsIn self.now seg.old }
         requires there { has_place at (listed (entries self.now)) ≡ true }

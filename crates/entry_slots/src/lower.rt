@@ -6,7 +6,7 @@ use apcu_model::rows_stay_apart;
 use sma_blocks::block_laws;
 use value_image::{bytes_are_packed, images_are_runs, runs_are_written, runs_stand};
 
-// Gathers the laws of the crates below that the calls here rest on.
+// Gathers the laws of the crates below that the calls here use.
 pub(crate) fn lower_laws()
     ensures { Laws }
 {

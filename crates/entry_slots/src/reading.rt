@@ -35,7 +35,7 @@ pub(crate) fn first_words<S: WordsIn>(seg: &mut S, at: u32) -> [u64; 11]
     words
 }
 
-// The place that follows the block in its list.
+// The place of the next block in the list of this one.
 pub(crate) fn next_of<S: WordsIn>(seg: &mut S, at: u32) -> u32
     requires inside { at + HEAD_WORDS ≤ length (S.words seg.old) }
     requires told { IsTold (S.aside seg.old).windows (at + NEXT) }
@@ -46,7 +46,7 @@ pub(crate) fn next_of<S: WordsIn>(seg: &mut S, at: u32) -> u32
     seg.load(at + NEXT) as u32
 }
 
-// The first entry of a slot's chain, or 0 where the chain is empty.
+// The first entry of a slot's chain, or 0 if the chain is empty.
 pub(crate) fn first_of<S: WordsIn>(seg: &mut S, slot: u32) -> u32
     requires low { (e : EntrySlots) × HasSlot S.WordsIn e seg.old slot }
     ensures first { (e : EntrySlots) → HasSlot S.WordsIn e seg.old slot
@@ -76,8 +76,8 @@ pub(crate) fn has_key_at<S: WordsIn>(seg: &mut S, at: u32, key: &[u8]) -> bool
     true
 }
 
-/// Whether the own time of the entry at a place is over at the moment `t`, in seconds: a look-up
-/// does not find it. The moment of its creation is read only if it has such a time.
+/// Whether the own ttl of the entry at a place has expired at the moment `t`, in seconds: a look-up
+/// does not find it. The moment of its creation is read only if it has a ttl.
 pub fn hard_expired_at<S: WordsIn>(seg: &mut S, at: u32, t: u64) -> bool
     requires there { (e : EntrySlots) × HasEntry S.WordsIn e seg.old at }
     ensures over { (e : EntrySlots) (row : Row) → HasEntry S.WordsIn e seg.old at
@@ -92,7 +92,7 @@ pub fn hard_expired_at<S: WordsIn>(seg: &mut S, at: u32, t: u64) -> bool
     has_passed(own, ctime, t)
 }
 
-// The number of rows after a new one stands in the place of the one at `replaced`, or last.
+// The number of rows after a new one has replaced the one at `replaced`, or was added last.
 pub(crate) fn count_after(count: u32, replaced: u32) -> u32
     requires { count + 1 < 2 ^ 32 }
     ensures { result ≡ (if replaced == 0 then count + 1 else count) }

@@ -18,7 +18,7 @@ use crate::standing::Change;
 use seg_words::{Segment, WordsIn};
 
 impl EntrySlots {
-    // Puts the unlinked row, which names no other, at the end of the removed ones.
+    // Puts the unlinked row, whose link is 0, at the end of the removed ones.
     pub(crate) fn append<S: Segment>(&mut self, seg: &mut S, at: u32)
         requires stand { Stand S.WordsIn self.old seg.old }
         requires there { has_place at (entries self.old).unlinked ≡ true }
@@ -35,7 +35,7 @@ impl EntrySlots {
         self.standing = self.standing.then(&Change::Move(at));
     }
 
-    // Takes the row off the list of removed rows, if it is there. Its block stays live.
+    // Takes the row off the list of removed rows, if it is in it. Its block stays live.
     pub(crate) fn take_off<S: Segment>(&mut self, seg: &mut S, at: u32)
         requires stand { Stand S.WordsIn self.old seg.old }
         requires there { has_place at (loose (entries self.old)) ≡ true }
@@ -53,7 +53,7 @@ impl EntrySlots {
         self.standing = self.standing.then(&Change::TakeOff(at));
     }
 
-    // Makes the link of the removed list name the place; link 0 begins the list.
+    // Makes the link of the removed list name the place; link 0 is the head of the list.
     fn name<S: Segment>(&mut self, seg: &mut S, link: u32, place: u32)
         requires may { link ≢ 0 → IsStorable (S.words seg.old) (S.aside seg.old).windows link }
         ensures standing { self.new.standing ≡ self.old.standing }
@@ -70,8 +70,8 @@ impl EntrySlots {
         }
     }
 
-    // The link of the removed list that names the row at `target`, or with 0 the last one; `None`
-    // where the list has no such row.
+    // The link of the removed list that names the row at `target`, or for 0 the last one; `None` if
+    // the list has no such row.
     fn removed_link<S: Segment>(&self, seg: &mut S, target: u32) -> Option<u32>
         requires stand { Stand S.WordsIn self.now seg.old }
         ensures some { IfSome result (λ link.

@@ -30,11 +30,11 @@ use seg_words::{HEAD_WORDS, IMAGE_LENGTH, KEY_LENGTH, Segment, WordsIn, words_in
 use sma_blocks::Sma;
 use value_image::Content;
 
-/// Entries in hash chains: each of the words before the first block begins the chain of one slot,
-/// and a list of removed entries begins beside them. An entry is a block of twelve words, its key
-/// and its value.
+/// Entries in hash chains: each of the words before the first block begins the chain of one slot;
+/// the head of the list of removed entries is kept outside the words. An entry is a block of twelve
+/// words, its key and its value.
 ///
-/// It keeps what stands beside the words of a segment. No call takes memory.
+/// It keeps what the words of a segment do not. No call allocates memory.
 pub struct EntrySlots {
     pub(crate) sma: Sma,
     // The place of the first removed entry, or 0.
@@ -59,8 +59,8 @@ impl Drop for EntrySlots {
 }
 
 impl EntrySlots {
-    /// Takes a block of `n` words at the least place where they fit beside all blocks; `None`
-    /// exactly where they fit nowhere, and then nothing changed. The block is loose until it is
+    /// Takes a block of `n` words at the lowest place where it overlaps no other block; `None`
+    /// exactly if there is no such place, and then nothing changed. The block is loose until it is
     /// linked.
     pub fn take<S: Segment>(&mut self, seg: &mut S, n: u32) -> Option<u32>
         requires size { (n % 2 ≡ 0) × (2 ≤ n) }
@@ -81,7 +81,7 @@ impl EntrySlots {
         Some(at)
     }
 
-    /// The first entry of a slot's chain, or 0 where the chain is empty.
+    /// The first entry of a slot's chain, or 0 if the chain is empty.
     pub fn first_in<S: WordsIn>(&self, seg: &mut S, slot: u32) -> u32
         requires stand { Stand S.WordsIn self.now seg.old }
         requires slot { slot < (entries self.now).conf.slots }
@@ -91,7 +91,7 @@ impl EntrySlots {
         first_of(seg, slot)
     }
 
-    /// The first removed entry, or 0 where there is none.
+    /// The first removed entry, or 0 if there is none.
     pub fn first_removed(&self) -> u32
         requires stand { IsStanding self.now }
         ensures first { result ≡ first_place (entries self.now).removed }
@@ -99,7 +99,7 @@ impl EntrySlots {
         self.removed
     }
 
-    /// The entry that follows one in its chain, or among the removed ones; 0 at the end.
+    /// The entry after this one in its chain, or in the list of removed ones; 0 at the end.
     pub fn after<S: WordsIn>(&self, seg: &mut S, at: u32) -> u32
         requires stand { Stand S.WordsIn self.now seg.old }
         requires there { has_place at (listed (entries self.now)) ≡ true }
@@ -122,7 +122,7 @@ impl EntrySlots {
         has_key_at(seg, at, key)
     }
 
-    /// What a look-up needs to know beside the words. It is good until a row comes or goes.
+    /// What a look-up needs to know besides the words. It is valid until a row is added or removed.
     pub fn finder(&self) -> Finder
         requires stand { IsStanding self.now }
         ensures slots { result.slots ≡ (entries self.now).conf.slots }
@@ -134,7 +134,7 @@ impl EntrySlots {
         }
     }
 
-    /// The block of the row of this key, `None` exactly where no row has it.
+    /// The block of the row of this key, `None` exactly if no row has it.
     pub fn find<S: WordsIn>(&self, seg: &mut S, key: &[u8]) -> Option<u32>
         requires stand { Stand S.WordsIn self.now seg.old }
         requires short { length key.now < 2 ^ 32 }
@@ -145,7 +145,7 @@ impl EntrySlots {
         self.find_in(seg, key, slot)
     }
 
-    /// The same; `slot` is the key's.
+    /// The same; `slot` is that of the key.
     pub fn find_in<S: WordsIn>(&self, seg: &mut S, key: &[u8], slot: u32) -> Option<u32>
         requires stand { Stand S.WordsIn self.now seg.old }
         requires short { length key.now < 2 ^ 32 }
@@ -156,8 +156,8 @@ impl EntrySlots {
         self.finder().find(seg, key, slot)
     }
 
-    /// Counts that the entry was used at the moment `t`: one hit more, but a count stays at the
-    /// last number.
+    /// Counts a use of the entry at the moment `t`: one hit more, unless the count is at its
+    /// maximum.
     pub fn touch<S: Segment>(&mut self, seg: &mut S, at: u32, t: u64)
         requires stand { Stand S.WordsIn self.old seg.old }
         requires there { has_place at (entries self.old).rows ≡ true }
@@ -189,7 +189,7 @@ impl EntrySlots {
         self.standing = self.standing.then(&Change::SetInt(at, n, t));
     }
 
-    /// What the entry's first words say.
+    /// What the entry's first words contain.
     pub fn head<S: WordsIn>(&self, seg: &mut S, at: u32) -> Head
         requires stand { Stand S.WordsIn self.now seg.old }
         requires there { has_place at (listed (entries self.now)) ≡ true }
@@ -215,8 +215,8 @@ impl EntrySlots {
     }
 
     /// Makes the block at `at`, which was taken for this key and value, a row of the moment `t`. It
-    /// stands in the place of the row at `replaced`, the one of its key, whose block is loose from
-    /// now on; with 0, where no row has the key, it is last.
+    /// replaces the row at `replaced`, the one of its key, whose block is loose from now on; if no
+    /// row has the key, that is 0, and the new row is last.
     pub fn link<S: Segment>(
         &mut self,
         seg: &mut S,
@@ -294,7 +294,7 @@ impl EntrySlots {
         self.append(seg, at);
     }
 
-    /// Gives the block of the unlinked or removed row back. No window may name it.
+    /// Frees the block of the unlinked or removed row. No window may name it.
     pub fn free<S: Segment>(&mut self, seg: &mut S, at: u32)
         requires stand { Stand S.WordsIn self.old seg.old }
         requires there { has_place at (loose (entries self.old)) ≡ true }
@@ -307,8 +307,8 @@ impl EntrySlots {
         self.free_unlinked(seg, at);
     }
 
-    /// Gives the block of the unlinked row back, as `free` does, but walks no list. No window may
-    /// name it.
+    /// Frees the block of the unlinked row, as `free` does, but walks no list. No window may name
+    /// it.
     pub fn free_unlinked<S: Segment>(&mut self, seg: &mut S, at: u32)
         requires stand { Stand S.WordsIn self.old seg.old }
         requires there { has_place at (entries self.old).unlinked ≡ true }
@@ -335,7 +335,7 @@ impl EntrySlots {
         slot_in(hash_at(seg, at + HEAD_WORDS, len), self.sma.bounds.from)
     }
 
-    // What follows the row at a place; nothing follows the place 0.
+    // The row after the one at a place; 0 after the place 0.
     fn behind<S: Segment>(&self, seg: &mut S, at: u32) -> u32
         requires stand { Stand S.WordsIn self.now seg.old }
         requires there { (at ≡ 0) ⊎ (has_place at (entries self.now).rows ≡ true) }
@@ -349,7 +349,7 @@ impl EntrySlots {
         next_of(seg, at)
     }
 
-    // The word that names the entry at `target` in the chain of the slot; with 0 the last word of
+    // The word that names the entry at `target` in the chain of the slot; for 0 the last word of
     // the chain.
     fn link_to<S: Segment>(&self, seg: &mut S, slot: u32, target: u32) -> u32
         requires stand { Stand S.WordsIn self.now seg.old }

@@ -1,5 +1,5 @@
-//! Where the row of a key stands in its chain. One walk finds it, and the calls that change the
-//! chain there walk no more.
+//! The place of a key's row in its chain. One walk finds it, and the calls that change the chain
+//! there do not walk again.
 
 ghost use Rattle.std.specs.Prelude.{◌≡◌, ◌≢◌, ◌⊎◌, ℕ, ◌+◌, ◌<◌, ◌^◌, ◌||◌, true};
 ghost use Rattle.std.specs.Prelude.{List, length, slice_index, Contains};
@@ -28,21 +28,21 @@ use php_graph::hash_of;
 use seg_words::{Segment, WordsIn};
 use value_image::Content;
 
-/// Where the row of a key stands in the chain of its slot, or where a new one would. It is of use
-/// until a row of the chain comes or goes.
+/// The place of a key's row in the chain of its slot, or the end of the chain if no row has the
+/// key. It is valid until a row of the chain is added or removed.
 #[derive(Clone, Copy, Debug)]
 pub struct Spot {
     /// The slot of the key.
     pub slot: u32,
-    /// The word that names the row; where no row has the key, the last word of the chain.
+    /// The word that names the row; if no row has the key, the last word of the chain.
     pub link: u32,
-    /// The place of the row's block; 0 where no row has the key.
+    /// The place of the row's block; 0 if no row has the key.
     pub at: u32,
     /// Whether a row before it in the chain was expired at the moment of the walk.
     pub stale: bool,
 }
 
-// Whether one of the two is so.
+// Whether one of the two is true.
 fn either(one: bool, other: bool) -> bool
     ensures { result ≡ (one || other) }
 {
@@ -50,8 +50,8 @@ fn either(one: bool, other: bool) -> bool
 }
 
 impl EntrySlots {
-    /// The slot of a key. It computes the key's hash, so ask once, or `slot_of_hash` if the hash is
-    /// known.
+    /// The slot of a key. It computes the key's hash: call it once, or `slot_of_hash` if the hash
+    /// is known.
     pub fn slot_of_key(&self, key: &[u8]) -> u32
         requires stand { IsStanding self.now }
         ensures slot { result ≡ slot_of (entries self.now).conf key.now }
@@ -68,8 +68,8 @@ impl EntrySlots {
         slot_in(hash, self.sma.bounds.from)
     }
 
-    /// Finds where the row of a key stands, by one walk along the chain of its slot as far as
-    /// there. `limit` is the cache's time limit.
+    /// Finds the row of the key by one walk along the chain of its slot, which ends at that row.
+    /// `limit` is the cache's ttl.
     pub fn seek<S: WordsIn>(&self, seg: &mut S, key: &[u8], slot: u32, limit: u32, t: u64) -> Spot
         requires short { length key.now < 2 ^ 32 }
         requires stand { Stand S.WordsIn self.now seg.old }
@@ -111,8 +111,8 @@ impl EntrySlots {
         }
     }
 
-    /// Whether a row of the chain is expired. The walk that found the spot is gone on with: the
-    /// rows before it are not read again.
+    /// Whether a row of the chain is expired. It continues the walk that found the spot: the rows
+    /// before it are not read again.
     pub fn has_expired<S: WordsIn>(&self, seg: &mut S, spot: Spot, limit: u32, t: u64) -> bool
         requires stand { Stand S.WordsIn self.now seg.old }
         requires spot { IsSpot (entries self.now) t spot }
@@ -137,7 +137,7 @@ impl EntrySlots {
         false
     }
 
-    // What follows the row at the place of a spot; nothing follows the place 0.
+    // The row after the one at the place of a spot; 0 after the place 0.
     fn behind_spot<S: Segment>(&self, seg: &mut S, at: u32) -> u32
         requires stand { Stand S.WordsIn self.now seg.old }
         requires there { (at ≡ 0) ⊎ (has_place at (entries self.now).rows ≡ true) }
@@ -152,8 +152,8 @@ impl EntrySlots {
     }
 
     /// Makes the block at `at`, which was taken for this key and content, a row of the moment `t`,
-    /// as `link` does: in the place of the row at the spot, whose block is loose from now on, or
-    /// last where there is none.
+    /// as `link` does: it replaces the row at the spot, whose block is loose from now on, or is
+    /// last if there is none.
     pub fn link_at<S: Segment>(
         &mut self,
         seg: &mut S,

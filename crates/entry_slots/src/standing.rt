@@ -1,4 +1,4 @@
-//! The ghost of the entries: what the words stand for.
+//! The ghost of the entries: what the words represent.
 
 ghost use Rattle.entry_slots.specs.Entries.{Entries, no_entries};
 
@@ -7,7 +7,7 @@ use ghost_log::{Begins, Happens, Log};
 use std::marker::Model;
 use value_image::Content;
 
-/// The entries that the words beside it are said to stand for. It exists only in proofs.
+/// The entries that the words next to it represent. It exists only in proofs.
 pub type Standing = Log<EntrySets>;
 
 /// What contracts see as entries. No value of this type is made.
@@ -29,25 +29,25 @@ impl Begins<EntrySets> for Conf {
 /// A change of the entries, with the place of the block that it is about.
 #[derive(Clone, Copy, Drop)]
 pub enum Change<'a> {
-    /// A block of so many words was taken.
+    /// A block of this many words was taken.
     Take(u32, u32),
     /// The row was used at this moment.
     Touch(u32, u64),
-    /// The row holds this integer since this moment.
+    /// The row holds this integer since that moment.
     SetInt(u32, i64, u64),
-    /// The row left its chain.
+    /// The row was taken out of its chain.
     Unlink(u32),
     /// The unlinked row was dropped at this moment.
     Date(u32, u64),
     /// The unlinked row is the last of the removed ones.
     Move(u32),
-    /// The row is no removed one any more.
+    /// The row is not a removed one any more.
     TakeOff(u32),
-    /// The unlinked row is gone, and so is its block.
+    /// The unlinked row and its block were freed.
     Give(u32),
-    /// A row came with this key, content, time to live and moment.
+    /// A row with this key, content, time to live and moment was added.
     Link(u32, &'a [u8], &'a Content<'a>, u32, u64),
-    /// All rows are gone.
+    /// All rows were dropped.
     Clear,
 }
 

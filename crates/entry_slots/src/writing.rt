@@ -13,10 +13,10 @@ use crate::lower::lower_laws;
 use seg_words::{HEAD_WORDS, Segment, words_in};
 use value_image::{Content, content_words, persist_content, put_bytes};
 
-// The head of a new entry: what stands there beside its key and its value.
+// The head of a new entry, except what its key and its value determine.
 #[derive(Clone, Copy)]
 pub(crate) struct NewHead {
-    // The place of the entry that follows it in its chain, or 0.
+    // The place of the next entry in its chain, or 0.
     pub(crate) next: u32,
     pub(crate) ttl: u32,
     // The moment at which it is stored.
@@ -57,7 +57,7 @@ pub(crate) fn put_entry<S: Segment>(
     persist_content(seg, at + HEAD_WORDS + words_in(key.len() as u32), content);
 }
 
-// Writes eight words at once from a place on, and the last ones of a head behind them.
+// Writes eight words at once from a place on, and then the last ones of a head.
 fn put_head<S: Segment>(seg: &mut S, at: u32, first: &[u64; 8], last: &[u64; 3])
     requires { MayWrite (S.words seg.old) (S.aside seg.old).windows at 11 }
     ensures words { S.words seg.new ≡ written (S.words seg.old) at (first.now ++ last.now) }
