@@ -1,4 +1,4 @@
--- What the words of a segment and a core stand for.
+-- What the words of a segment and a core represent.
 use Rattle.std.specs.Prelude.{◌≡◌, ℕ, List}
 use Rattle.seg_words.specs.Windows.{Aside}
 use Rattle.seg_words.specs.declared.segment.WordsIn.{Ghosts}
@@ -20,17 +20,17 @@ cache_of core = record {
   expunges = core.cache_counts.expunges;
 }
 
--- The words, with what is kept beside them, stand for it: no block is loose, and the shape is that
+-- The words, with what is kept outside them, represent it: no block is loose, and the shape is that
 -- of the words.
 pub record CoreStands (core : Core) (words : List ℕ) (aside : Aside) : Type 0 where
   pub stand : Stands core.slots words aside (entries core.slots)
   pub whole : entries core.slots ≡ entries_of (cache_of core)
 
--- so do those of a segment
+-- the same for those of a segment
 abbrev pub CacheStands : {X R : Type 0} → Ghosts X R → Core → X → Type 0
 CacheStands g core seg = CoreStands core (g.words seg) (g.aside seg)
 
--- so do some words
+-- the same for some words
 pub record IsStandingCore (core : Core) : Type 0 where
   pub words : List ℕ
   pub aside : Aside

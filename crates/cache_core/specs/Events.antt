@@ -14,12 +14,12 @@ use Rattle.ttl_expunge.specs.ProbedRows.{AreHeld, AreRemoved, KeepsOpen}
 use Rattle.cache_core.specs.declared.cache.Core.{Core}
 use Rattle.cache_core.specs.CoreCache.{cache_of, CacheStands}
 
--- Rows may be dropped: no place is refused but those of removed rows.
+-- Rows may be dropped: only places of removed rows are refused.
 pub record MayDrop {X R : Type 0} (g : Ghosts X R) (core : Core) (seg : X) : Type 0 where
   pub stand : CacheStands g core seg
   pub refused : AreRemoved (g.aside seg) (cache_of core).removed
 
--- A row may come in: no place is refused as long as the removed rows were not swept in this event,
+-- A row may be added: no place is refused as long as the removed rows were not swept in this event,
 -- and each of them is held once they were.
 pub record MayInsert {X R : Type 0} (g : Ghosts X R) (swept : Bool) (core : Core) (seg : X)
     : Type 0 where
@@ -28,21 +28,21 @@ pub record MayInsert {X R : Type 0} (g : Ghosts X R) (swept : Bool) (core : Core
   pub held : swept ≡ true → AreHeld (g.aside seg) (cache_of core).removed
   pub refused : AreRemoved (g.aside seg) (cache_of core).removed
 
--- it makes room, and so sweeps the removed rows, where it answers this
+-- it makes room, and so sweeps the removed rows, if it returns this
 abbrev pub makes_room : StoreAnswer → Bool
 makes_room answers.NoRoom = true
 makes_room answers.Stored = true
 makes_room answers.TooLarge = false
 makes_room answers.Exists = false
 
--- x is what f gives for the blocks that are held, as a call leaves the windows and the mask, and
+-- x is what f returns for the blocks that are held, as a call leaves the windows and the mask, and
 -- after each later probe of the event
 abbrev pub IsBy : {A : Type 0} → Aside → (List ℕ → A) → A → Type 0
 IsBy aside f x = (later : Aside) → Goes aside later → x ≡ f (held_blocks later)
 
--- A step of an event: its probes only close windows, the rows under those that are open still are
--- still there, the words stand for the cache, and no place becomes refused but those of removed
--- rows.
+-- A step of an event: its probes only close windows, the rows under those that are still open still
+-- exist, the words represent the cache, and the only places that become refused are those of
+-- removed rows.
 pub record IsStep {X R : Type 0} (g : Ghosts X R) (old new : Core) (before after : X)
     : Type 0 where
   pub goes : Goes (g.aside before) (g.aside after)
@@ -65,7 +65,7 @@ pub record IsUnchanged {X R : Type 0} (g : Ghosts X R) (old new : Core) (before 
   pub core : new ≡ old
   pub kept : Kept g before after
 
--- So is a call for whose answer there may be no memory: then nothing has changed.
+-- The same for a call whose result may need memory: if there is none, nothing has changed.
 pub record DoesIf {X R A E : Type 0} (g : Ghosts X R) (old new : Core) (before after : X) (t : ℕ)
     (r : Request) (answer : Result A E) (y : A → Reply) : Type 0 where
   pub done : IfOk answer (λ a. Does g old new before after t r (y a))

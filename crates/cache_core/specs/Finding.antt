@@ -1,4 +1,4 @@
--- What a look-up needs of words, and of what is known beside them.
+-- What a look-up needs of words, and of what is known besides them.
 use Rattle.std.specs.Prelude.{◌≡◌, ℕ, List, length}
 use Rattle.seg_words.specs.declared.segment.WordsIn.{Ghosts}
 use Rattle.apcu_model.specs.SlotOrder.{slot_of}
@@ -6,7 +6,7 @@ use Rattle.entry_slots.specs.declared.finding.Finder.{Finder}
 use Rattle.cache_core.specs.declared.cache.Core.{Core}
 use Rattle.cache_core.specs.CoreCache.{CacheStands, cache_of}
 
--- The words stand for the cache, the finder has the number of its slots and of its rows, and this
+-- The words represent the cache, the finder has the number of its slots and of its rows, and this
 -- is the slot of the key.
 pub record FindsLive {X R : Type 0} (g : Ghosts X R) (core : Core) (finder : Finder) (seg : X)
     (key : List ℕ) (slot : ℕ) : Type 0 where

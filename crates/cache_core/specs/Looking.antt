@@ -12,24 +12,24 @@ use Rattle.cache_core.specs.declared.scalar.Scalar.TheVariants as scalars
 use Rattle.cache_core.specs.declared.scalar.Look.{Look}
 use Rattle.cache_core.specs.declared.scalar.Look.TheVariants as look
 
--- null, a truth value or an integer
+-- null, a boolean or an integer
 abbrev pub scalar_kind : Kind → Option Scalar
 scalar_kind kinds.Null = Some scalars.Null
 scalar_kind (kinds.Bool b) = Some (scalars.Bool b)
 scalar_kind (kinds.Int n) = Some (scalars.Int n)
 scalar_kind _ = None
 
--- what a value's first place holds, if it is such a one
+-- what a value's first place holds, if it is one of these
 abbrev pub scalar_of : List Kind → Option Scalar
 scalar_of [] = None
 scalar_of (kind ∷ places) = scalar_kind kind
 
--- it is answered at once, and any other value by the place of its row's block
+-- it is returned at once, and any other value by the place of its row's block
 abbrev pub look_at : ℕ → Option Scalar → Look
 look_at place (Some scalar) = look.Scalar scalar
 look_at place None = look.Hit place
 
--- what is answered for the row that a look-up finds
+-- what is returned for the row that a look-up finds
 abbrev pub look_of : Option Row → Look
 look_of None = look.Miss
 look_of (Some row) = look_at row.place (scalar_of row.graph)
@@ -47,7 +47,7 @@ pub record IsFound (key : List ℕ) (t : ℕ) (c : Cache) (at : ℕ) : Type 0 wh
   pub first : find (has_key key) c.rows ≡ Some row
   pub is_row : IsRowOf c key at row
 
--- The image of some value stands from `at` on, and can be read.
+-- The image of some value begins at `at`, and can be read.
 pub record HasImage (words windows : List ℕ) (at : ℕ) : Type 0 where
   pub graph : List Kind
   pub len : ℕ

@@ -1,4 +1,4 @@
--- A new row in the place of the row of its key.
+-- A new row that replaces the row of its key.
 use Rattle.std.specs.Prelude.{◌≡◌, ℕ, ◌==◌, not, List, ◌++◌, length, map, filter}
 use Rattle.seg_words.specs.Windows.{Aside, held_blocks}
 use Rattle.php_graph.specs.declared.kind.Kind.{Kind}
@@ -9,7 +9,7 @@ use Rattle.entry_slots.specs.Entries.{Entries, entries_of, with_taken, stored_ro
 use Rattle.seg_words.specs.Probing.{Goes}
 use Rattle.ttl_expunge.specs.ProbedRows.{AreDecided, AreRemoved, AreHeld, KeepsOpen}
 
--- the new row stands in the block that was taken for it, and the old row of the key was dropped
+-- the new row is in the block that was taken for it, and the old row of the key was dropped
 abbrev pub replaced_in : List ℕ → ℕ → List ℕ → List Kind → ℕ → ℕ → Entries → Entries
 replaced_in held at key graph ttl t s = record s {
   rows = with_row (stored_row key graph ttl t at s.next_number) s.rows;
@@ -20,7 +20,7 @@ replaced_in held at key graph ttl t s = record s {
   taken = filter (λ block. not (block.place == at)) s.taken;
 }
 
--- so as the call leaves what is beside the words
+-- the same, with the blocks that are held when the call returns
 pub record Replaces (old new : Entries) (before after : Aside)
     (at : ℕ) (key : List ℕ) (graph : List Kind) (ttl t : ℕ) : Type 0 where
   pub replaced : new ≡ replaced_in (held_blocks after) at key graph ttl t old

@@ -1,4 +1,4 @@
--- Where a new row would stand, as it was found before room was made.
+-- The spot of a new row, as it was found before room was made.
 use Rattle.std.specs.Prelude.{◌≡◌, ℕ, List, Option, IfSome}
 use Rattle.entry_slots.specs.declared.spots.Spot.{Spot}
 use Rattle.entry_slots.specs.Entries.{Entries}

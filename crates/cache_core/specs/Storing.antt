@@ -5,8 +5,7 @@ use Rattle.php_graph.specs.Size.{block_size}
 use Rattle.apcu_model.specs.Cache.{Cache, gap_of}
 use Rattle.apcu_model.specs.Change.{Insertion, with_room, put_in}
 
--- a new row comes in, for which room is made: what is left of storing once nothing speaks
--- against it
+-- a new row is added, for which room is made: what is left of storing once it is not refused
 abbrev pub added : List ℕ → List ℕ → List Kind → ℕ → ℕ → Cache → Insertion
 added held key graph ttl t c =
     let n = block_size (length key) graph in

@@ -11,11 +11,11 @@ abbrev pub fetched : List (List ℕ) → ℕ → Cache → Cache
 fetched [] t c = c
 fetched (key ∷ keys) t c = fetched keys t (looked_up key t (live_row key t c) c)
 
--- where the block of the row is that a look-up of the key finds
+-- the place of the block of the row that a look-up of the key finds
 abbrev pub found_place : List ℕ → ℕ → Cache → Option ℕ
 found_place key t c = option_map (λ (row : Row). row.place) (live_row key t c)
 
--- what a look-up answers by: the place and the value of the row that it finds
+-- what a look-up returns depends on: the place and the value of the row that it finds
 abbrev pub seen_in : Option Row → Option (ℕ × List Kind)
 seen_in found = option_map (λ (row : Row). (row.place, row.graph)) found
 

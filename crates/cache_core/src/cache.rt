@@ -17,12 +17,12 @@ use max_tree::MaxRow;
 use php_graph::hash_of;
 use seg_words::{Segment, WordsIn};
 
-/// The cache over the words of a segment. It keeps what stands beside them: the entries, the shape
-/// and what is counted. No call takes memory.
+/// The cache over the words of a segment. It keeps what the words do not: the entries, the shape
+/// and the counters. No call allocates memory.
 ///
-/// Each call is handed the segment in which the cache was formatted. Contracts see the cache of one
-/// thread (`cache_of`), by the blocks that are held as the call leaves the segment's windows and
-/// mask. In a `VecWords`, which has no windows, none ever is.
+/// Each call is passed the segment in which the cache was formatted. Contracts see the
+/// single-threaded cache (`cache_of`), by the blocks that are held when the call leaves the
+/// segment's windows and mask. A `VecWords` has no windows, so no block is ever held there.
 pub struct Core {
     pub(crate) slots: EntrySlots,
     pub(crate) conf: Conf,
@@ -63,7 +63,7 @@ impl Core {
         }
     }
 
-    /// What was counted, and the number of rows. Each count stays at its last number once there.
+    /// The counters, and the number of rows. Each counter stops at its maximum.
     pub fn counts(&self) -> Counts
         requires stand { IsStanding self.now.slots }
         ensures { result ≡ counts_of (cache_of self.now) }
@@ -77,8 +77,8 @@ impl Core {
         }
     }
 
-    /// The slot of a key. It computes the key's hash, so ask once, or `slot_of_hash` if the hash is
-    /// known.
+    /// The slot of a key. It computes the key's hash: call it once, or `slot_of_hash` if the hash
+    /// is known.
     pub fn slot_of_key(&self, key: &[u8]) -> u32
         requires stand { IsStandingCore self.now }
         ensures slot { result ≡ slot_of self.now.conf key.now }
@@ -94,7 +94,7 @@ impl Core {
         self.slots.slot_of_hash(hash)
     }
 
-    /// What a look-up needs to know beside the words. It is good until a row comes or goes.
+    /// What a look-up needs to know besides the words. It is valid until a row is added or removed.
     pub fn finder(&self) -> Finder
         requires stand { IsStandingCore self.now }
         ensures slots { result.slots ≡ self.now.conf.slots }
@@ -104,7 +104,7 @@ impl Core {
     }
 
     /// Lends the entries, for walks over chains and rows, as those of `cache_info` and `apcu_iter`.
-    /// The cache goes on with them as they are left.
+    /// The cache continues with the entries that the borrower leaves.
     pub fn slots(&mut self) -> &mut EntrySlots
         ensures* lends { sem 𝓛 (LendsSlots self.entry result) }
         ensures value { result.now ≡ self.old.slots }

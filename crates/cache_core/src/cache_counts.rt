@@ -1,10 +1,10 @@
-//! What a cache counts.
+//! The counters of a cache.
 
 ghost use Rattle.std.specs.Prelude.{◌≡◌, if◌then◌else◌};
 ghost use Rattle.apcu_model.specs.Cache.{risen};
 ghost use Rattle.cache_core.specs.Counting.{risen_by};
 
-/// What a cache counts. Each count stays at its last number once there.
+/// The counters of a cache. Each stops at its maximum.
 #[derive(Clone, Copy, Debug, PartialEq, Eq)]
 pub(crate) struct CacheCounts {
     pub(crate) hits: u64,
@@ -26,7 +26,7 @@ impl CacheCounts {
         }
     }
 
-    // Room was made. Where all rows went for it, what was counted since the last time is forgotten.
+    // Room was made. If all rows were dropped for it, the counters begin at 0 again.
     pub(crate) fn after_room(self, full: bool) -> CacheCounts
         ensures hits { result.hits ≡ (if full then 0 else self.hits) }
         ensures misses { result.misses ≡ (if full then 0 else self.misses) }
@@ -75,7 +75,7 @@ impl CacheCounts {
         }
     }
 
-    // So many look-ups found none.
+    // This number of look-ups found none.
     pub(crate) fn after_misses(self, n: u64) -> CacheCounts
         ensures { result ≡ record self { misses = risen_by n self.misses } }
     {
@@ -86,7 +86,7 @@ impl CacheCounts {
     }
 }
 
-// The count, so many higher.
+// The counter, increased by n.
 fn risen(count: u64, n: u64) -> u64
     ensures { result ≡ risen_by n count }
 {

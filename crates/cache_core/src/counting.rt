@@ -21,8 +21,8 @@ use value_image::unpersist;
 
 impl Core {
     /// A copy of the value of the row that a look-up of the key at the moment `t`, in seconds,
-    /// finds, and the place of that row. Nothing is counted, and the row is not used: `count_hit`
-    /// and `count_misses` come once memory was found.
+    /// finds, and the place of that row. Nothing is counted, and the row is not used: call
+    /// `count_hit` and `count_misses` once memory was found.
     pub fn copy_live<S: Segment>(
         &self,
         alloc: Global,
@@ -50,8 +50,8 @@ impl Core {
     /// Counts a look-up that found the row at `at`: a hit, and a use of the row at the moment `t`,
     /// in seconds.
     ///
-    /// For each key under which a look-up at some moment finds that row, the cache is the one that
-    /// such a look-up leaves.
+    /// For each key under which a look-up at some moment finds that row, this leaves the same cache
+    /// as that look-up does.
     pub fn count_hit<S: Segment>(&mut self, seg: &mut S, at: u32, t: u64)
         requires stand { CacheStands S.WordsIn self.old seg.old }
         requires there { has_place at (cache_of self.old).rows ≡ true }
@@ -67,8 +67,7 @@ impl Core {
         self.cache_counts = self.cache_counts.after_hit();
     }
 
-    /// Counts so many look-ups that found no row. The count of misses stays at its last number once
-    /// there.
+    /// Counts `n` look-ups that found no row. The counter of misses stops at its maximum.
     pub fn count_misses(&mut self, n: u64)
         ensures cache { cache_of self.new ≡ with_misses n (cache_of self.old) }
         ensures slots { self.new.slots ≡ self.old.slots }
@@ -77,11 +76,11 @@ impl Core {
     }
 
     /// Counts look-ups of the moment `t`, in seconds, that were answered before: for each of these
-    /// places a hit and a use of its row, and so many misses.
+    /// places a hit and a use of its row, and the given number of misses.
     ///
     /// If look-ups of some keys find the rows at these places, and those of as many others as there
-    /// are misses find none, the cache is the one that fetches of all these keys leave, one after
-    /// the other.
+    /// are misses find none, this leaves the same cache as fetches of all these keys, one after the
+    /// other.
     pub fn count_uses<S: Segment>(&mut self, seg: &mut S, places: &[u32], misses: u64, t: u64)
         requires stand { CacheStands S.WordsIn self.old seg.old }
         requires there { (i : ℕ) → i < length places.now

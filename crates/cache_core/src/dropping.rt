@@ -13,8 +13,8 @@ use seg_words::Segment;
 use ttl_expunge::{drop_row_at, expunge_at_once};
 
 impl Core {
-    /// Deletes the row that a look-up of the key at the moment `t`, in seconds, finds; whether it
-    /// finds one. Where it finds none, nothing changes: a row whose own time is over stays.
+    /// Deletes the row that a look-up of the key at the moment `t`, in seconds, finds, and returns
+    /// whether it found one. If there is none, nothing changes: an expired row stays.
     pub fn delete<S: Segment>(&mut self, seg: &mut S, key: &[u8], t: u64) -> bool
         requires short { length key.now < 2 ^ 32 }
         requires ready { MayDrop S.WordsIn self.old seg.old }
@@ -26,7 +26,7 @@ impl Core {
         self.delete_in(seg, key, slot, t)
     }
 
-    /// The same; `slot` is the key's.
+    /// The same; `slot` is that of the key.
     pub fn delete_in<S: Segment>(&mut self, seg: &mut S, key: &[u8], slot: u32, t: u64) -> bool
         requires short { length key.now < 2 ^ 32 }
         requires slot { slot ≡ slot_of self.old.conf key.now }
@@ -43,7 +43,7 @@ impl Core {
         true
     }
 
-    /// Drops all rows at the moment `t`, and forgets all that was counted.
+    /// Drops all rows at the moment `t`, and sets all counters to 0.
     pub fn clear<S: Segment>(&mut self, seg: &mut S, t: u64)
         requires { MayDrop S.WordsIn self.old seg.old }
         ensures { Does S.WordsIn self.old self.new seg.old seg.new t Clear (Flag true) }

@@ -1,4 +1,4 @@
-//! Looking a key up by what is known beside the words, without the cache.
+//! Looking up a key without the cache, from what is known besides the words.
 
 ghost use Rattle.std.specs.Prelude.{◌≡◌, ◌<◌, ◌^◌, length, None, IfSome, IfNone};
 ghost use Rattle.seg_words.specs.Kept.{Kept};
@@ -12,7 +12,7 @@ use entry_slots::{Finder, hard_expired_at, standing_laws};
 use seg_words::WordsIn;
 
 /// The place of the row that a look-up of the key at the moment `t`, in seconds, finds; `slot` is
-/// the key's. Nothing is counted, and no word is written.
+/// that of the key. Nothing is counted, and no word is written.
 pub fn find_live_in<S: WordsIn>(
     finder: Finder,
     seg: &mut S,

@@ -1,4 +1,4 @@
-//! Integers under keys: looked at without a use, and set in their place.
+//! Integers under keys: read without a use, and set in place.
 
 ghost use Rattle.std.specs.Prelude.{◌≡◌, ℕ, ◌<◌, ◌^◌, List, false, length, option_map, Some};
 ghost use Rattle.seg_words.specs.Kept.{Kept, KeptBeside};
@@ -20,8 +20,8 @@ use seg_words::{Segment, WordsIn};
 
 impl Core {
     /// The place of the row that a look-up of the key at the moment `t`, in seconds, finds, and its
-    /// value where that is null, a truth value or an integer. Nothing is counted, and the row is
-    /// not used.
+    /// value if that is null, a boolean or an integer. Nothing is counted, and the row is not used.
+    /// It is the look-up of `apcu_inc`, `apcu_dec` and `apcu_cas`.
     pub fn peek<S: WordsIn>(&self, seg: &mut S, key: &[u8], t: u64) -> Option<(u32, Option<Scalar>)>
         requires short { length key.now < 2 ^ 32 }
         requires stand { CacheStands S.WordsIn self.now seg.old }
@@ -33,7 +33,7 @@ impl Core {
         self.peek_in(seg, key, slot, t)
     }
 
-    /// The same; `slot` is the key's.
+    /// The same; `slot` is that of the key.
     pub fn peek_in<S: WordsIn>(
         &self,
         seg: &mut S,
@@ -55,7 +55,7 @@ impl Core {
     }
 
     /// Makes `n` the value of the row at `at`, which holds an integer, changed at the moment `t`.
-    /// That is no use of it. No window may name its block.
+    /// This does not count as a use. No window may name its block.
     ///
     /// For each key under which a look-up at some moment finds that row, the cache is the one in
     /// which its integer was set.

@@ -1,8 +1,8 @@
 //! The cache over the words of a segment: what it stores, finds, deletes and counts.
 //!
-//! `Core::format` makes one in any `seg_words::Segment`, which each call is handed again. Segments
-//! are `VecWords` of `seg_words`, words in memory for one thread; `HeldWords` beside it, such words
-//! with a window for each of 64 workers, all of which one thread plays; and `Writer` of
+//! `Core::format` makes one in any `seg_words::Segment`, which is passed to each later call.
+//! Segments are `VecWords` of `seg_words`, words in memory for one thread; `HeldWords`, also there,
+//! which adds a window for each of 64 workers, all of which one thread plays; and `Writer` of
 //! `pin_table`, the words that workers on threads share, for one event of one of them.
 #![tactic(auto)]
 

@@ -20,7 +20,7 @@ use crate::scalar::{Look, Scalar, read_scalar};
 use entry_slots::{Spot, standing_laws};
 use seg_words::{Segment, WordsIn};
 
-// What a look-up answers that found the row at a place with this value.
+// The result of a look-up that found the row at a place with this value.
 fn answer(at: u32, scalar: Option<Scalar>) -> Look
     ensures { result ≡ look_at at scalar }
 {
@@ -31,7 +31,7 @@ fn answer(at: u32, scalar: Option<Scalar>) -> Look
 }
 
 impl Core {
-    // The place of the row that a look-up of the key finds; `slot` is the key's.
+    // The place of the row that a look-up of the key finds; `slot` is that of the key.
     pub(crate) fn find_live<S: WordsIn>(
         &self,
         seg: &mut S,
@@ -49,7 +49,7 @@ impl Core {
         find_live_in(self.finder(), seg, key, slot, t)
     }
 
-    // The value of the key's row, which is at `at`, if it is null, a truth value or an integer. No
+    // The value of the key's row, which is at `at`, if it is null, a boolean or an integer. No
     // other word of the row is read.
     pub(crate) fn scalar_at<S: WordsIn>(&self, seg: &mut S, key: &[u8], at: u32) -> Option<Scalar>
         requires short { length key.now < 2 ^ 32 }
@@ -63,8 +63,8 @@ impl Core {
         read_scalar(seg, image)
     }
 
-    // Where the row of the key stands or a new one would, and whether a look-up finds it; `slot` is
-    // the key's.
+    // The spot of the key's row or of a new one, and whether a look-up finds it; `slot` is that of
+    // the key.
     fn seek_row<S: WordsIn>(&self, seg: &mut S, key: &[u8], slot: u32, t: u64) -> (Spot, bool)
         requires short { length key.now < 2 ^ 32 }
         requires slot { slot ≡ slot_of self.now.conf key.now }
@@ -86,7 +86,7 @@ impl Core {
         (spot, true)
     }
 
-    // Where the row stands that a look-up of the key finds; `slot` is the key's.
+    // The spot of the row that a look-up of the key finds; `slot` is that of the key.
     pub(crate) fn find_spot<S: WordsIn>(
         &self,
         seg: &mut S,
@@ -107,7 +107,7 @@ impl Core {
         if is_live { Some(spot) } else { None }
     }
 
-    // Where a new row of the key would stand, unless a look-up finds one; `slot` is the key's.
+    // The spot of a new row of the key, unless a look-up finds one; `slot` is that of the key.
     pub(crate) fn new_spot<S: WordsIn>(
         &self,
         seg: &mut S,
@@ -139,7 +139,7 @@ impl Core {
         self.exists_in(seg, key, slot, t)
     }
 
-    /// The same; `slot` is the key's.
+    /// The same; `slot` is that of the key.
     pub fn exists_in<S: WordsIn>(&self, seg: &mut S, key: &[u8], slot: u32, t: u64) -> bool
         requires short { length key.now < 2 ^ 32 }
         requires slot { slot ≡ slot_of self.now.conf key.now }
@@ -150,9 +150,9 @@ impl Core {
         self.find_live(seg, key, slot, t).is_some()
     }
 
-    /// Looks a key up at the moment `t`: a row that is found is used and counts a hit, else a miss
-    /// is counted. A hard expired row is not found; one that is only soft expired is, and its
-    /// use is counted from now on.
+    /// Looks a key up at the moment `t`, in seconds, as `apcu_fetch` does: a row that is found is
+    /// used and counts a hit, otherwise a miss is counted. A hard expired row is not found; one
+    /// that is only soft expired is found, and is not expired any more.
     pub fn look<S: Segment>(&mut self, seg: &mut S, key: &[u8], t: u64) -> Look
         requires short { length key.now < 2 ^ 32 }
         requires stand { CacheStands S.WordsIn self.old seg.old }
@@ -165,7 +165,7 @@ impl Core {
         self.look_in(seg, key, slot, t)
     }
 
-    /// The same; `slot` is the key's.
+    /// The same; `slot` is that of the key.
     pub fn look_in<S: Segment>(&mut self, seg: &mut S, key: &[u8], slot: u32, t: u64) -> Look
         requires short { length key.now < 2 ^ 32 }
         requires slot { slot ≡ slot_of self.old.conf key.now }

@@ -6,7 +6,7 @@ use apcu_model::count_laws;
 use entry_slots::standing_laws;
 use ttl_expunge::drop_laws;
 
-// Gathers the laws of the crates below that the calls here rest on.
+// Gathers the laws of the crates below that the calls here use.
 pub(crate) fn lower_laws()
     ensures { CacheLaws }
 {

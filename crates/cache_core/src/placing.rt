@@ -18,8 +18,8 @@ use seg_words::Segment;
 use ttl_expunge::{is_let_go, seek_swept};
 use value_image::Content;
 
-// A new row in the block at `at`, in the place of the row of its key, which is dropped. That row,
-// or the end of its chain, is at the spot.
+// A new row in the block at `at` replaces the row of its key, which is dropped. That row, or the
+// end of its chain, is at the spot.
 fn replace<S: Segment>(
     slots: &mut EntrySlots,
     seg: &mut S,
@@ -56,8 +56,8 @@ fn replace<S: Segment>(
     }
 }
 
-// Drops the expired rows of a key's slot, and finds where the row of the key stands then. The spot,
-// if it was found before, is where it stands now.
+// Drops the expired rows of a key's slot, and finds the spot of the key then. `spot` is its spot
+// before the call, if that is known.
 fn spot_swept<S: Segment>(
     slots: &mut EntrySlots,
     seg: &mut S,
@@ -86,8 +86,8 @@ fn spot_swept<S: Segment>(
 }
 
 // A new row in the block at `at`, which was taken for it: the expired rows of its slot are dropped,
-// and so is the row of its key, in whose place it stands. The spot of the key may have been found
-// before. `limit` is the cache's time limit.
+// and it replaces the row of its key. The spot of the key may have been found before. `limit` is
+// the cache's ttl.
 pub(crate) fn put_in<S: Segment>(
     slots: &mut EntrySlots,
     seg: &mut S,

@@ -33,9 +33,9 @@ impl Core {
     /// Stores a value at the moment `t`, in seconds. `ttl` is in seconds, 0 is no limit; an
     /// `exclusive` store leaves a live row as it is. It is the first insertion of its event.
     ///
-    /// `TooLarge` where the value could not even fit into the empty segments, then `Exists` where
-    /// an exclusive store meets a live row; nothing changed then. `NoRoom` where no gap is large
-    /// enough, not even after room was made.
+    /// `TooLarge` if the value would not even fit into the empty segments, then `Exists` if an
+    /// exclusive store finds a live row; nothing changed then. `NoRoom` if no gap is large enough,
+    /// not even after room was made.
     pub fn store<S: Segment>(
         &mut self,
         seg: &mut S,
@@ -59,7 +59,7 @@ impl Core {
         self.store_in(seg, key, slot, g, ttl, exclusive, t)
     }
 
-    /// The same; `slot` is the key's.
+    /// The same; `slot` is that of the key.
     pub fn store_in<S: Segment>(
         &mut self,
         seg: &mut S,
@@ -86,7 +86,7 @@ impl Core {
     }
 
     /// Stores a byte string as `store` does the graph that has it as its only place. No graph is
-    /// made of it: its bytes go from the slice into the row.
+    /// made: its bytes are copied from the slice into the row.
     pub fn store_bytes<S: Segment>(
         &mut self,
         seg: &mut S,
@@ -112,7 +112,7 @@ impl Core {
         self.store_bytes_in(seg, key, slot, bytes, ttl, exclusive, t)
     }
 
-    /// The same; `slot` is the key's.
+    /// The same; `slot` is that of the key.
     pub fn store_bytes_in<S: Segment>(
         &mut self,
         seg: &mut S,
@@ -140,8 +140,8 @@ impl Core {
         self.store_content(seg, key, slot, &content, ttl, exclusive, t)
     }
 
-    // Stores a graph, or a byte string as a graph; `slot` is the key's. It is the first insertion of
-    // its event.
+    // Stores a graph, or a byte string as a graph; `slot` is that of the key. It is the first
+    // insertion of its event.
     fn store_content<S: Segment>(
         &mut self,
         seg: &mut S,
@@ -176,7 +176,7 @@ impl Core {
     }
 
     /// Stores a value as `store` does, for an event that stores under several keys, as a generator
-    /// does: after an insertion of the same event that answered `Stored` or `NoRoom`. The removed
+    /// does: after an insertion of the same event that returned `Stored` or `NoRoom`. The removed
     /// rows that it left are held, and none is swept.
     pub fn store_next<S: Segment>(
         &mut self,
@@ -207,8 +207,8 @@ impl Core {
         }
     }
 
-    // Why the value is not stored, though there may be room for it; or else, where an exclusive
-    // store has looked for it, where the new row would stand.
+    // Why the value is not stored, though there may be room for it; or else, if an exclusive store
+    // has looked for it, the spot of the new row.
     fn seek_new<S: Segment>(
         &self,
         seg: &mut S,
@@ -248,7 +248,7 @@ impl Core {
         }
     }
 
-    // Frees the removed rows that nobody copies any more.
+    // Frees the removed rows from which no worker copies any more.
     fn sweep<S: Segment>(&mut self, seg: &mut S)
         requires ready { MayInsert S.WordsIn false self.old seg.old }
         ensures conf { self.new.conf ≡ self.old.conf }
@@ -263,7 +263,7 @@ impl Core {
     }
 
     // Makes room for a new row, and puts it there: at the spot, if it was found before and no row
-    // had to go.
+    // had to be dropped.
     fn add<S: Segment>(
         &mut self,
         seg: &mut S,
@@ -315,7 +315,7 @@ impl Core {
     }
 }
 
-// The spot, where no row has gone.
+// The spot, if no row was dropped.
 fn if_still(spot: Option<Spot>, before: u32, after: u32) -> Option<Spot>
     ensures { result ≡ (if after == before then spot else None) }
 {
