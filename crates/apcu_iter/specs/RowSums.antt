@@ -1,9 +1,9 @@
--- What rows come to.
+-- Totals over rows.
 use Rattle.std.specs.Prelude.{ℕ, ◌+◌, ◌-◌, ◌^◌, min, List, length, sum_by}
 use Rattle.apcu_model.specs.Cache.{Row}
 use Rattle.apcu_iter.specs.declared.summing.Sums.{Sums}
 
--- so far as a number of 64 bits goes
+-- as far as 64 bits can hold it
 abbrev pub within : ℕ → ℕ
 within n = min n (2 ^ 64 - 1)
 
@@ -15,11 +15,11 @@ with_rows sums rows = record {
   words = within (sums.words + sum_by (λ (row : Row). row.size) rows);
 }
 
--- nothing was added up
+-- the totals of no rows
 abbrev pub no_sums : Sums
 no_sums = record { count = 0; hits = 0; words = 0 }
 
--- what both come to
+-- the totals of both
 abbrev pub sums_of_both : Sums → Sums → Sums
 sums_of_both sums more = record {
   count = within (sums.count + more.count);

@@ -1,4 +1,4 @@
-//! Walks over the rows of a slot, and over the removed rows, for what is given of them.
+//! Walks over the rows of a slot, and over the removed rows, that collect items.
 
 ghost use Rattle.std.specs.Prelude.{◌≡◌, ◌<◌, ◌^◌, ◌++◌, [], ◌∷◌, true, length, IfOk, OnOk};
 ghost use Rattle.seg_words.specs.Kept.{Kept};
@@ -14,7 +14,7 @@ use row_search::{RowTest, item_at};
 use seg_words::{Segment, WordsIn};
 use std::alloc::{AllocError, Global};
 
-// What is given of the row at a place comes behind the items, if the row is chosen.
+// Appends the item of the row at a place, if the row is chosen.
 fn add_item<S: Segment>(
     alloc: Global,
     slots: &EntrySlots,
@@ -37,7 +37,7 @@ fn add_item<S: Segment>(
     Ok(())
 }
 
-// So for the rows of a slot, by their place in the chain.
+// The same for the rows of a slot, in the order of the chain.
 pub(crate) fn list_slot<S: Segment>(
     alloc: Global,
     slots: &EntrySlots,
@@ -66,7 +66,7 @@ pub(crate) fn list_slot<S: Segment>(
     Ok(())
 }
 
-// What is given of the removed rows, in the order in which they were dropped.
+// The items of the removed rows, in the order in which they were dropped.
 pub(crate) fn list_removed<S: Segment>(
     alloc: Global,
     slots: &EntrySlots,

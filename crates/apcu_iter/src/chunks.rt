@@ -16,7 +16,7 @@ use row_search::{RowTest, Search};
 use seg_words::{Segment, WordsIn};
 use std::alloc::{AllocError, Global};
 
-// Goes over the slots from one on until there are so many items, or to the last slot.
+// Walks over the slots from one on until there are enough items, or to the last slot.
 fn active_chunk<S: Segment>(
     alloc: Global,
     slots: &EntrySlots,
@@ -52,7 +52,7 @@ fn active_chunk<S: Segment>(
     })
 }
 
-// Goes over all removed rows.
+// Walks over all removed rows.
 fn removed_chunk<S: Segment>(
     alloc: Global,
     slots: &EntrySlots,
@@ -76,15 +76,15 @@ fn removed_chunk<S: Segment>(
 
 /// One step of an iterator at the moment `t`, in seconds. Nothing changes.
 ///
-/// Over the active rows it goes on at the slot `from`, over as few slots as hold `size` items or
-/// more, and to the last slot where they hold fewer. Its items are the rows whose own time is not
-/// over and whose keys match, by slot and place, and `next` is the first slot behind them. Over the
-/// deleted rows all that match are one step, in the order in which they were dropped, and `next`
-/// is the number of slots.
+/// Over the active rows it continues at the slot `from` and takes as few slots as hold at least
+/// `size` items, or all that are left if they hold fewer. Its items are the rows that have not
+/// expired and whose keys match, by slot and place, and `next` is the slot after the last one
+/// taken. Over the deleted rows, all that match are one step, in the order in which they were
+/// dropped, and `next` is the number of slots.
 ///
-/// It takes as long as there are slots and rows that it passes, whatever `size` is. The matcher is
-/// made before anything else. A value is copied only where `fields` asks for it. Want of memory is
-/// the only refusal.
+/// It takes time in proportion to the slots and rows that it passes, whatever `size` is. The
+/// matcher is made before anything else. A value is copied only if `fields` selects it. Out of
+/// memory is the only error.
 pub fn chunk<S: Segment>(
     alloc: Global,
     core: &mut Core,

@@ -1,4 +1,4 @@
-//! Deleting what an iterator goes over.
+//! Deleting the rows of an iterator.
 
 ghost use Rattle.std.specs.Prelude.{◌≡◌, ◌<◌, ◌≤◌, ◌++◌, [], ◌∷◌, true, IfOk, OnOk};
 ghost use Rattle.seg_words.specs.Kept.{Kept};
@@ -22,7 +22,7 @@ use seg_words::{Segment, WordsIn};
 use std::alloc::{AllocError, Global};
 use ttl_expunge::{drop_laws, drop_rows};
 
-// The place of the row at a place comes behind the places, if the row is chosen.
+// Appends the place of the row at a place, if the row is chosen.
 fn collect_row<S: Segment>(
     slots: &EntrySlots,
     seg: &mut S,
@@ -43,7 +43,7 @@ fn collect_row<S: Segment>(
     Ok(())
 }
 
-// So for the rows of a slot, by their place in the chain.
+// The same for the rows of a slot, in the order of the chain.
 fn collect_slot<S: Segment>(
     slots: &EntrySlots,
     seg: &mut S,
@@ -70,7 +70,7 @@ fn collect_slot<S: Segment>(
     Ok(())
 }
 
-// Where a step over the active rows ends, and the places of its rows.
+// The slot after a step over the active rows, and the places of its rows.
 fn collect_chunk<S: Segment>(
     alloc: Global,
     slots: &EntrySlots,
@@ -102,13 +102,13 @@ fn collect_chunk<S: Segment>(
 }
 
 /// Deletes the rows of one step of an iterator over the active rows at the moment `t`, in seconds.
-/// It goes on at the slot `from`, over as few slots as hold `size` rows or more whose own time is
-/// not over and whose keys match, and to the last slot where they hold fewer. Those rows go, by
-/// slot and place: one that somebody still copies is the last of the removed rows then. It answers
-/// the first slot behind them.
+/// It continues at the slot `from` and takes as few slots as hold at least `size` rows that have
+/// not expired and whose keys match, or all that are left if they hold fewer. These rows are
+/// dropped, by slot and place: a row from which a worker still copies becomes the last removed row.
+/// Returns the slot after the last one taken.
 ///
-/// The rows are found before the first one goes, and only that takes memory: without it nothing
-/// changed. Want of memory is the only refusal.
+/// The rows are found before the first one is dropped, and only finding them takes memory. Out of
+/// memory is the only error; then nothing changed.
 pub fn chunk_delete<S: Segment>(
     alloc: Global,
     core: &mut Core,

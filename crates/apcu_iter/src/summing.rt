@@ -1,4 +1,4 @@
-//! What all rows come to that an iterator goes over.
+//! Totals over all rows of an iterator.
 
 ghost use Rattle.std.specs.Prelude.{◌≡◌, ◌<◌, [], ◌∷◌, true, filter, IfOk};
 ghost use Rattle.std.specs.Prelude.{if◌then◌else◌};
@@ -21,19 +21,19 @@ use row_search::{RowTest, Search, head_at};
 use seg_words::{Segment, WordsIn};
 use std::alloc::AllocError;
 
-/// What rows come to. Each number stays at its last one once there.
+/// Totals over rows. Each number stops at its maximum.
 #[derive(Clone, Copy)]
 pub(crate) struct Sums {
-    // how many rows
+    // the number of rows
     count: u64,
-    // how often they were fetched together
+    // the sum of their hits
     hits: u64,
     // the words of their blocks
     words: u64,
 }
 
 impl Sums {
-    // Those of no rows.
+    // The totals of no rows.
     fn new() -> Sums
         ensures { result ≡ no_sums }
     {
@@ -44,7 +44,7 @@ impl Sums {
         }
     }
 
-    // With one row more, which has this head.
+    // With one more row, which has this head.
     fn with(self, head: Head) -> Sums
         ensures { (row : Row) → head.hits ≡ row.hits → head.size ≡ row.size
             → result ≡ with_rows self (row ∷ []) }
@@ -56,7 +56,7 @@ impl Sums {
         }
     }
 
-    // What both come to.
+    // The totals of both.
     fn plus(self, more: Sums) -> Sums
         ensures { result ≡ sums_of_both self more }
     {
@@ -89,7 +89,7 @@ fn add_row<S: Segment>(
     }
 }
 
-// What the rows of a slot come to.
+// The totals of the rows of a slot.
 fn add_slot<S: Segment>(
     slots: &EntrySlots,
     seg: &mut S,
@@ -116,7 +116,7 @@ fn add_slot<S: Segment>(
     Ok(sums)
 }
 
-// What the rows of all slots come to.
+// The totals of the rows of all slots.
 fn add_active<S: Segment>(
     slots: &EntrySlots,
     seg: &mut S,
@@ -136,7 +136,7 @@ fn add_active<S: Segment>(
     Ok(sums)
 }
 
-// What the removed rows come to.
+// The totals of the removed rows.
 fn add_removed<S: Segment>(
     slots: &EntrySlots,
     seg: &mut S,
@@ -161,7 +161,7 @@ fn add_removed<S: Segment>(
     Ok(sums)
 }
 
-// What the rows of a list come to.
+// The totals of the rows of a list.
 fn add_all<S: Segment>(
     slots: &EntrySlots,
     seg: &mut S,
@@ -180,12 +180,11 @@ fn add_all<S: Segment>(
     }
 }
 
-/// What all rows come to that an iterator over the list goes over at the moment `t`, in seconds:
-/// how many they are, how often they were fetched together, where 2^64 - 1 is that often or
-/// oftener, and the bytes of their blocks. Nothing changes.
+/// The totals of all rows of an iterator over the list at the moment `t`, in seconds: their number,
+/// the sum of their hits, which stops at 2^64 - 1, and the bytes of their blocks. Nothing changes.
 ///
-/// It takes as long as there are slots and rows. Matching takes memory from the search's allocator,
-/// and its want is the only refusal.
+/// It takes time in proportion to the slots and rows. Matching takes memory from the search's
+/// allocator, and out of memory is the only error.
 pub fn totals<S: Segment>(
     core: &mut Core,
     seg: &mut S,
