@@ -1,4 +1,4 @@
--- What may be asked.
+-- Which requests may be made.
 use Rattle.std.specs.Prelude.{◌≡◌, ℕ, ◌<◌, ◌≤◌, ◌^◌, length, Option}
 use Rattle.apcu_model.specs.declared.conf.Conf.{Conf}
 use Rattle.apcu_model.specs.declared.searching.Pattern.{Pattern}
@@ -6,15 +6,14 @@ use Rattle.apcu_model.specs.declared.request.Request.{Request}
 use Rattle.apcu_model.specs.declared.request.Request.TheVariants as requests
 use Rattle.apcu_model.specs.Levels.{most_levels}
 
--- a step of an iterator: it is the search's pattern that is asked for, and the step goes on within
--- the slots
+-- a step of an iterator: the request has the search's pattern, and the step begins within the slots
 pub record MaySearch (conf : Conf) (searched wanted : Option Pattern) (from size : ℕ)
     : Type 0 where
   pub same : wanted ≡ searched
   pub within : from ≤ conf.slots
   pub some : 1 ≤ size
 
--- the pattern that is asked for is the search's
+-- the request has the search's pattern
 pub record IsSearch (searched wanted : Option Pattern) : Type 0 where
   pub same : wanted ≡ searched
 

@@ -22,7 +22,7 @@ pub record HasReached {X : Type 0} (g : Ghosts X (List ℕ)) (core : Core) (word
   pub at : IsReached g core words windows stage left
 
 -- From a stage that was reached an event begins. The words were `old` and are `new`: for each
--- worker of the mask the block is held that its window is of, if that is still there.
+-- worker of the mask, the block that its window is of is held, if it still exists.
 pub record Begins {X : Type 0} (g : Ghosts X (List ℕ)) (core : Core) (old new : X)
     (windows : List (Option Window)) (m : Stage) (left mask : ℕ) : Type 0 where
   pub laws : PlayLaws

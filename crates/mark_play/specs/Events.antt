@@ -1,4 +1,4 @@
--- Events whose requests are lent.
+-- Events whose requests are borrowed.
 use Rattle.std.specs.Prelude.{ℕ}
 use Rattle.apcu_model.specs.declared.request.Event.{Event}
 use Rattle.apcu_model.specs.declared.request.Request.{Request}
@@ -6,7 +6,7 @@ use Rattle.apcu_model.specs.Asking.{asked}
 use Rattle.mark_play.specs.declared.reached.Asked.{Asked}
 use Rattle.mark_play.specs.declared.reached.Asked.TheVariants.{By}
 
--- a worker that meets the workers of the mask asks this at the moment t
+-- a worker makes this request at the moment t, with this mask
 abbrev pub event_by : ℕ → ℕ → Request → ℕ → Event
 event_by worker mask request t = record {
   worker = worker;

@@ -7,7 +7,7 @@ use Rattle.mark_play.specs.declared.answering.Window.{Window}
 abbrev pub HasKeyIn : List Row → Window → Type 0
 HasKeyIn rows w = (row : Row) → Contains rows row → row.number ≡ w.number → row.key ≡ w.key
 
--- the place of a row of this number; 0 only where there is none
+-- the place of a row of this number; 0 only if there is none
 pub record IsRowPlace (rows : List Row) (number at : ℕ) : Type 0 where
   pub there : at ≢ 0
       → (row : Row) × Contains rows row × (row.number ≡ number) × (row.place ≡ at)

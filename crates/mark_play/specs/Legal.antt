@@ -1,4 +1,4 @@
--- Which masks are legal where the workers have these windows.
+-- Which masks are legal if the workers have these windows.
 use Rattle.std.specs.Prelude.{ℕ, ◌==◌, ◌&&◌, ◌||◌, not, nat_lt, Bool, List, Option, None}
 use Rattle.std.specs.Prelude.{is_some, slice_index_or}
 use Rattle.std.specs.List.{list_all, range_with_len}

@@ -1,4 +1,4 @@
--- Where a replay is.
+-- The stage of a replay.
 use Rattle.std.specs.Prelude.{◌≡◌, ℕ, ◌+◌, ◌<◌, ◌≤◌, ◌++◌, true, List, length, Option, Some, None}
 use Rattle.std.specs.Prelude.{slice_index_or}
 use Rattle.seg_words.specs.declared.segment.WordsIn.{Ghosts}
@@ -13,7 +13,7 @@ use Rattle.cache_core.specs.CoreCache.{cache_of, CacheStands}
 use Rattle.mark_play.specs.declared.answering.Window.{Window}
 use Rattle.mark_play.specs.HeldPlaces.{HasKeyIn}
 
--- what contracts see of it: where the events so far have led, and how many more it can play
+-- what contracts see of it: the stage after the events so far, and how many more it can play
 pub record Replayed : Type 0 where
   pub stage : Stage
   pub left : ℕ
@@ -35,7 +35,7 @@ pub record IsStage (m : Stage) (left : ℕ) : Type 0 where
   pub few : length history + left ≤ MOST_EVENTS
   pub shallow : are_shallow history ≡ true
 
--- The words stand for the cache that was reached, and for each worker its window is kept, with the
+-- The words represent the cache that was reached, and for each worker its window is kept, with the
 -- key of its row.
 pub record IsReached {X : Type 0} (g : Ghosts X (List ℕ)) (core : Core) (words : X)
     (windows : List (Option Window)) (m : Stage) (left : ℕ) : Type 0 where

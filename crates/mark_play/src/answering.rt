@@ -1,4 +1,4 @@
-//! What the cache on words answers to a request, whatever it is.
+//! The reply of the cache on words to any request.
 
 ghost use Rattle.std.specs.Prelude.{◌≡◌, ◌<◌, ◌^◌, true, false, length, Some, IfOk};
 ghost use Rattle.seg_words.specs.Kept.{Kept, KeptBeside};
@@ -47,7 +47,7 @@ fn was_stored(answer: StoreAnswer) -> Reply
     }
 }
 
-// What counting came to.
+// The reply of counting.
 fn number(answer: IncAnswer) -> Reply
     ensures { result ≡ reply_of answer }
 {
@@ -57,7 +57,7 @@ fn number(answer: IncAnswer) -> Reply
     }
 }
 
-// What is told of a row, if one was found.
+// The reply of `apcu_key_info`, if a row was found.
 fn reply_of_info(info: Option<Graph>) -> Reply
     ensures { result ≡ info_reply info }
 {
@@ -67,7 +67,7 @@ fn reply_of_info(info: Option<Graph>) -> Reply
     }
 }
 
-// Whether the value is answered at once, and never copied outside an event.
+// Whether the value is returned at once, and never copied outside an event.
 fn is_scalar(value: &Graph) -> bool
     ensures { result ≡ is_scalar value.now }
 {
@@ -80,7 +80,7 @@ fn is_scalar(value: &Graph) -> bool
     }
 }
 
-// The window that a look-up opens which found the row at a place with this value.
+// The window opened by a look-up that found the row at a place with this value.
 fn window_at<S: Segment>(
     alloc: Global,
     slots: &EntrySlots,
@@ -130,7 +130,7 @@ fn fetch<S: Segment>(
     Ok((Reply::Found(value), window))
 }
 
-// The answer to a request, and the window that it opens. Without memory nothing changed.
+// The reply to a request, and the window that it opens. Without memory nothing changed.
 pub(crate) fn answer<S: Segment>(
     alloc: Global,
     core: &mut Core,

@@ -21,7 +21,7 @@ use entry_slots::EntrySlots;
 use seg_words::{HeldWords, Segment, WordsIn};
 use std::marker::Model;
 
-// The place of the row of the window's key, if it has the window's number; else 0.
+// The place of the row of the window's key, if it has the window's number; otherwise 0.
 fn row_of<S: Segment>(slots: &EntrySlots, seg: &mut S, window: &Window) -> u32
     requires stand { Stand S.WordsIn slots.now seg.old }
     requires key { HasKeyIn (listed (entries slots.now)) window.now }
@@ -38,7 +38,7 @@ fn row_of<S: Segment>(slots: &EntrySlots, seg: &mut S, window: &Window) -> u32
     at
 }
 
-// The place of the removed row of a number; else 0.
+// The place of the removed row of a number; otherwise 0.
 fn removed_of<S: Segment>(slots: &EntrySlots, seg: &mut S, number: u64) -> u32
     requires stand { Stand S.WordsIn slots.now seg.old }
     ensures place { IsRowPlace (entries slots.now).removed number result }
@@ -55,7 +55,7 @@ fn removed_of<S: Segment>(slots: &EntrySlots, seg: &mut S, number: u64) -> u32
     at
 }
 
-// The place of the row or removed row that a window is of; 0 where it is gone.
+// The place of the row or removed row that a window is of; 0 if it was freed.
 fn place_of<S: Segment>(slots: &EntrySlots, seg: &mut S, window: &Window) -> u32
     requires stand { Stand S.WordsIn slots.now seg.old }
     requires key { HasKeyIn (listed (entries slots.now)) window.now }
@@ -82,7 +82,7 @@ fn place_for<S: Segment>(slots: &EntrySlots, seg: &mut S, window: &Option<Window
     }
 }
 
-// Holds for each worker of the mask the block that its window is of, if that is still there.
+// Holds for each worker of the mask the block that its window is of, if that still exists.
 fn hold_all(slots: &EntrySlots, words: &mut HeldWords, windows: &[Option<Window>], mask: u64)
     requires stand { Stand ⟦<HeldWords as WordsIn>⟧ slots.now words.old }
     requires full { length windows.now ≡ MOST_WORKERS }
@@ -98,7 +98,7 @@ fn hold_all(slots: &EntrySlots, words: &mut HeldWords, windows: &[Option<Window>
     ensures aside { ⟦<HeldWords as WordsIn>⟧.aside words.new
         ≡ ⟦<HeldWords as WordsIn>⟧.aside words.old }
 {
-    // Most events meet nobody.
+    // The mask of most events is empty.
     if mask == 0 {
         return;
     }
@@ -110,7 +110,7 @@ fn hold_all(slots: &EntrySlots, words: &mut HeldWords, windows: &[Option<Window>
     }
 }
 
-// Begins an event that meets the workers of the mask.
+// Begins an event with this mask.
 pub(crate) fn begin_event(
     core: &mut Core,
     words: &mut HeldWords,

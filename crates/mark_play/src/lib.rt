@@ -1,5 +1,5 @@
-//! One mark of a journal after the other, played by one thread on the cache over words: each event
-//! meets the workers that its mask names, and is answered as the cache of one thread answers it.
+//! Plays the marks of a journal one after the other, in one thread on the cache over words: each
+//! event probes as its mask says, and gets the reply of the single-threaded cache.
 #![tactic(auto)]
 
 mod answering;

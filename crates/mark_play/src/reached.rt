@@ -6,7 +6,7 @@ use apcu_model::{Ask, Conf};
 use ghost_log::{Begins, Happens, Log};
 use std::marker::Model;
 
-/// Where the events so far have led. It exists only in proofs.
+/// The stage after the events so far. It exists only in proofs.
 pub type Reached = Log<Stages>;
 
 /// What contracts see as a stage. No value of this type is made.
@@ -25,10 +25,10 @@ impl Begins<Stages> for Conf {
     ghost begun = { start_of };
 }
 
-/// An event, with its request lent.
+/// An event, with its request borrowed.
 #[derive(Clone, Copy, Drop)]
 pub enum Asked<'a> {
-    /// A worker asked this at the moment `t`, in seconds, and met the workers of the mask.
+    /// A worker made this request at the moment `t`, in seconds, with this mask.
     By {
         worker: u32,
         t: u64,

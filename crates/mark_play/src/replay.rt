@@ -25,8 +25,8 @@ use std::marker::Model;
 /// A play of a journal by one thread, one event after the other, on the cache over words. Contracts
 /// see the stage that it has reached, and how many more events it can play.
 ///
-/// It keeps for each of `MOST_WORKERS` workers which row its last event fetched. An event that
-/// meets workers finds those rows' blocks held, as copies under way hold them.
+/// It keeps for each of `MOST_WORKERS` workers which row its last event fetched. In an event whose
+/// mask names workers, the blocks of those rows are held, as by copies in progress.
 pub struct Replay {
     core: Core,
     words: HeldWords,
@@ -71,8 +71,8 @@ fn no_windows(alloc: Global) -> Result<Vec<Option<Window>>, AllocError>
 }
 
 impl Replay {
-    /// Begins with an empty cache of this shape, for so many events at most. All words are taken
-    /// here.
+    /// Begins with an empty cache of this shape, for at most `events` events. All words are
+    /// allocated here.
     pub fn new(alloc: Global, conf: &Conf, events: u32) -> Result<Replay, AllocError>
         requires usable { IsUsable conf.now }
         requires few { events ≤ MOST_EVENTS }
@@ -92,19 +92,19 @@ impl Replay {
         })
     }
 
-    /// Whether the mask is legal for an event of the worker now: each of its workers is another one
-    /// of so many workers, and its last event fetched a value that is copied outside the lock.
+    /// Whether the mask is legal for an event of the worker now: each worker in it is another one
+    /// below `workers`, and its last event fetched a value that is copied outside the lock.
     pub fn is_legal(&self, workers: u32, worker: u32, mask: u64) -> bool
         ensures { result ≡ is_legal_mask workers worker self.now.stage mask }
     {
         is_legal(&self.windows, workers, worker, mask)
     }
 
-    /// Plays an event: the worker asks at the moment `t`, in seconds, and meets the workers of the
-    /// mask. The answer is that of the cache of one thread where the replay stands, and so is where
-    /// it stands then. `search` is one for what is asked, where that is a step of an iterator.
+    /// Plays an event: the worker makes the request at the moment `t`, in seconds, with this mask.
+    /// The reply, and the stage after it, are those of the single-threaded cache at the current
+    /// stage. If the request is a step of an iterator, `search` is the one for it.
     ///
-    /// Memory is taken for the answer and for the key of a fetch, before anything changes.
+    /// Memory is taken for the reply and for the key of a fetch, before anything changes.
     pub fn play(
         &mut self,
         alloc: Global,
