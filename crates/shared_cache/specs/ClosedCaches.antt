@@ -1,4 +1,4 @@
--- What is left of a cache once all its workers have ended.
+-- What is left of a cache after all its workers have ended.
 use Rattle.std.specs.Prelude.{◌≡◌, ℕ, true, false, List, [], slice_get, Some}
 use mathlib.Core.List.{IsPrefix}
 use Rattle.seg_words.specs.declared.vec_words.VecWords.{VecWords}
@@ -16,7 +16,7 @@ use Rattle.pin_table.specs.Views.{has_worker}
 use Rattle.shared_cache.specs.declared.locked_cache.Closed.{Closed}
 
 -- The journal holds the marks of one legal history, which begins with what each of them has seen.
--- The events of each in it are its own, and no other worker has one. The counts are those of the
+-- The events of each in it are its own, and no other worker has one. The counters are those of the
 -- cache after it.
 pub record IsClosed (conf : Conf) (workers : ℕ) (ended : List PassView) (closed : Closed)
     : Type 0 where
@@ -29,8 +29,8 @@ pub record IsClosed (conf : Conf) (workers : ℕ) (ended : List PassView) (close
       → events_of b.known.worker history ≡ b.known.own
   pub others : (w : ℕ) → has_worker w (known_list ended) ≡ false → events_of w history ≡ []
 
--- So it was closed. The core is the cache after that history, and the words stand for it. They are
--- words of one thread, which have no windows.
+-- The same for a cache that was closed with its words. The core is the cache after that history,
+-- and the words represent it. They are words of one thread, which have no windows.
 pub record IsClosedWhole (conf : Conf) (workers : ℕ) (ended : List PassView) (closed : Closed)
     (core : Core) (words : VecWords) : Type 0 where
   pub is_closed : IsClosed conf workers ended closed

@@ -15,9 +15,10 @@ use Rattle.counter_entry.specs.Generating.{fate_of}
 use Rattle.pin_table.specs.Values.{PassView}
 use Rattle.pin_table.specs.Events.{event, events_of}
 
--- The pass q is p after one event more: at the moment t its worker asked for r, and y is the reply
--- of one thread at that place of the history. What q has seen is what p had seen, then what others
--- did since, then this event; all of it is legal, and the worker's events in it are its own.
+-- The pass q is p after one more event: at the moment t its worker made the request r, and y is the
+-- reply of the single-threaded cache at that place of the history. What q has seen is what p had
+-- seen, then what others did since, then this event; all of it is legal, and the worker's events in
+-- it are its own.
 pub record Follows (conf : Conf) (workers : ℕ) (p q : PassView) (t : ℕ) (r : Request) (y : Reply)
     : Type 0 where
   pub mask : ℕ
@@ -33,8 +34,8 @@ pub record Follows (conf : Conf) (workers : ℕ) (p q : PassView) (t : ℕ) (r :
   pub reply : y
       ≡ reply_in (stage_of conf (p.known.seen ++ between)) (event p.known.worker t r mask)
 
--- The event of a generator: the pass q is p after it, and the value is the one that it gives. Its
--- fate is by the blocks that are held in the event, of which the mask tells.
+-- The event of a generator: the pass q is p after it, and the value is the one that it returns. Its
+-- fate is by the blocks that are held in the event, which the mask determines.
 pub record FollowsEntry (conf : Conf) (workers : ℕ) (p q : PassView) (t : ℕ) (g : Generator)
     (value : List Kind) (fate : Fate) : Type 0 where
   pub follows : Follows conf workers p q t (request.Entry g) (reply.Gave value)

@@ -16,6 +16,6 @@ pub record LockLaws : Type 0 where
   pub alike : HeldAlike
   pub keep : EventsKeep
   -- rows of one number have one place, each worker has one window, and none is of a row that holds
-  -- null, a truth value or an integer
+  -- null, a boolean or an integer
   pub numbered : (conf : Conf) (history : List Event) → length history ≤ MOST_EVENTS
       → are_shallow history ≡ true → IsNumbered (stage_of conf history)

@@ -6,7 +6,7 @@ use Rattle.apcu_model.specs.History.{start_of, all_legal}
 use Rattle.pin_table.specs.Values.{PassView}
 use Rattle.pin_table.specs.Events.{events_of}
 
--- There was no event. The pass q is p, and has seen besides what the ended worker had seen.
+-- There was no event. The pass q is p, and has also seen what the ended worker had seen.
 pub record Learns (conf : Conf) (workers : ℕ) (p q ended : PassView) : Type 0 where
   pub table : q.table ≡ p.table
   pub worker : q.known.worker ≡ p.known.worker

@@ -1,4 +1,4 @@
--- What holds of the value under the lock while no one has it.
+-- The invariant of the value that the lock guards, while it is not taken.
 use Rattle.std.specs.Prelude.{◌≡◌, ℕ, ◌+◌, ◌≤◌, true, List, None, length, sum}
 use Rattle.apcu_model.specs.declared.journal.TheConstants.{MOST_EVENTS}
 use Rattle.atomic_table.specs.Seated.{TableId}
@@ -20,12 +20,12 @@ pub record Settled (t : TableId) (conf : Conf) (budgets : List ℕ)
   pub resting : s.state ≡ rested s.state s.state.log
   pub budgets_are : s.state.log.budgets ≡ budgets
   pub made : s.state.log.made ≡ length budgets
-  -- first: the words stand for the cache of one thread after the history
+  -- first: the words represent the single-threaded cache after the history
   pub stands : CoreStands core s.state.words (aside_of s.state)
   pub cache : cache_of core ≡ (stage_of conf s.state.log.history).cache
   -- second: each event of the history is legal
   pub legal : all_legal (length budgets) (start_of conf) s.state.log.history ≡ true
-  -- and none has more than eight entries in one another, so no two rows have one number
+  -- and none has more than eight nested entries, so no two rows have one number
   pub shallow : are_shallow s.state.log.history ≡ true
   -- third: each open window is the worker's window after the history
   pub tied : AreTied (stage_of conf s.state.log.history) s.state.windows

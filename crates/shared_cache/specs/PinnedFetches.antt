@@ -18,8 +18,8 @@ use Rattle.shared_cache.specs.Follows.{Follows}
 abbrev pub pass_view_of : CopyView → PassView
 pass_view_of k = record { table = k.table; known = k.copy.known }
 
--- A value was found that is copied outside the lock: it is no Null, no truth value and no integer,
--- and the words of the copy are its image, from place 0 on.
+-- A value was found that is copied outside the lock: it is not null, a boolean or an integer, and
+-- the words of the copy are its image, from place 0 on.
 pub record FollowsFound (conf : Conf) (workers : ℕ) (p : PassView) (k : CopyView) (t : ℕ)
     (key : List ℕ) : Type 0 where
   pub graph : List Kind
@@ -27,7 +27,7 @@ pub record FollowsFound (conf : Conf) (workers : ℕ) (p : PassView) (k : CopyVi
   pub whole : is_scalar graph ≡ false
   pub image : IsImageOf k.copy.content 0 (length k.copy.content) graph
 
--- the value that is answered at once
+-- the value that is returned at once
 abbrev pub scalar_graph : Scalar → List Kind
 scalar_graph scalars.Null = kinds.Null ∷ []
 scalar_graph (scalars.Bool b) = kinds.Bool b ∷ []

@@ -1,4 +1,4 @@
--- How the writer's open windows stand to the history.
+-- How the writer's open windows are related to the history.
 use Rattle.std.specs.Prelude.{◌≡◌, ℕ, ◌<◌, List, ◌++◌, Contains, Some}
 use mathlib.Core.Option.{some}
 use lib.ListN.{get_elem?}
@@ -13,6 +13,6 @@ pub record IsTied (m : Stage) (v at : ℕ) : Type 0 where
   pub place : row.place ≡ at
   pub window : window_of m v ≡ Some row.number
 
--- so does each open window; one of 0 is closed
+-- the same for each open window; one of 0 is closed
 abbrev pub AreTied : Stage → List ℕ → Type 0
 AreTied m windows = (v at : ℕ) → get_elem? windows v ≡ some at → 0 < at → IsTied m v at

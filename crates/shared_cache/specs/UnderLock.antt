@@ -24,7 +24,7 @@ use Rattle.shared_cache.specs.LockInvariant.{Settled}
 use Rattle.shared_cache.specs.Follows.{Follows}
 
 -- The writer w has taken the pass p. Before that the seat s, the core c and the journal j agreed.
--- The words still stand for the cache, and any call of it may come.
+-- The words still represent the cache, and any call of it may follow.
 pub record Taken (t : TableId) (conf : Conf) (budgets : List ℕ) (s : WriterView) (c : Core)
     (j : Marks) (p : PassView) (w : Writer) : Type 0 where
   pub laws : LockLaws
@@ -42,7 +42,7 @@ pub record Taken (t : TableId) (conf : Conf) (budgets : List ℕ) (s : WriterVie
   pub shape : (cache_of c).conf ≡ conf
   pub unnamed : NameNoScalar (aside_of w.seat.now.state).windows (cache_of c).rows
 
--- Since the writer was as first, only the words, and what the event met, have changed.
+-- Since the writer was as first, only the words, and what the event's probes found, have changed.
 pub record WritesOn (first w : Writer) : Type 0 where
   pub worker : w.worker ≡ first.worker
   pub left : w.left ≡ first.left
@@ -50,7 +50,7 @@ pub record WritesOn (first w : Writer) : Type 0 where
   pub log : w.seat.now.state.log ≡ first.seat.now.state.log
   pub begun : w.seat.now.state.begun ≡ first.seat.now.state.begun
 
--- The writer is at work: it has taken a pass and goes on. The journal does not know of the event
+-- The writer is in an event: it has taken a pass and continues. The journal does not have the event
 -- yet.
 pub record AtWork (t : TableId) (conf : Conf) (budgets : List ℕ) (j : Marks) (w : Writer)
     : Type 0 where
@@ -61,8 +61,8 @@ pub record AtWork (t : TableId) (conf : Conf) (budgets : List ℕ) (j : Marks) (
   pub taken : Taken t conf budgets seat core j pass first
   pub writes_on : WritesOn first w
 
--- The pass q is p after one event more, as `Follows` has it, which stands behind this history and
--- has met the workers of this mask. What they hold there is what their windows name.
+-- The pass q is p after one more event, as `Follows` has it, which comes after this history and has
+-- this mask. What its workers hold there is what their windows name.
 pub record FollowsAt (conf : Conf) (workers : ℕ) (p q : PassView) (t : ℕ) (r : Request) (y : Reply)
     (history : List Event) (mask : ℕ) (windows : List ℕ) : Type 0 where
   pub follows : Follows conf workers p q t r y

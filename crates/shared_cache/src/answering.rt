@@ -1,5 +1,5 @@
-//! What is asked under the lock for an answer that takes memory. Without memory for it there was no
-//! event, and the pass comes back as it was.
+//! Requests whose replies take memory, under the lock. If there is no memory for the reply, there
+//! was no event, and the pass is returned as it was.
 
 ghost use Rattle.std.specs.Prelude.{◌≡◌, ◌<◌, ◌≤◌, ◌^◌, length, IfOk, OnErr};
 ghost use Rattle.apcu_model.specs.declared.request.Request.TheVariants as request;
@@ -43,7 +43,7 @@ impl<N: TableName> LockedCache<N> {
         end_or_give_back::<N, _>(&mut self.journal, w, Ask::Entry(generator), t, answer)
     }
 
-    // What is told of the row that a look-up of the key finds.
+    // Information about the row that a look-up of the key finds.
     pub(crate) fn key_info(
         &mut self,
         table: &PinTable,
@@ -64,7 +64,7 @@ impl<N: TableName> LockedCache<N> {
         end_or_give_back::<N, _>(&mut self.journal, w, Ask::KeyInfo(key), t, answer)
     }
 
-    // What is told of the cache.
+    // Information about the cache.
     pub(crate) fn cache_info(
         &mut self,
         table: &PinTable,
@@ -83,7 +83,7 @@ impl<N: TableName> LockedCache<N> {
         end_or_give_back::<N, _>(&mut self.journal, w, Ask::CacheInfo(limited), 0, answer)
     }
 
-    // What is told of the words: what is free.
+    // Information about the words: the free ones.
     pub(crate) fn sma_info(
         &mut self,
         table: &PinTable,
@@ -137,7 +137,7 @@ impl<N: TableName> LockedCache<N> {
         end_or_give_back::<N, _>(&mut self.journal, w, ask, t, answer)
     }
 
-    // The rows of one step of an iterator over the active rows are deleted.
+    // Deletes the rows of one step of an iterator over the active rows.
     pub(crate) fn chunk_delete(
         &mut self,
         table: &PinTable,
@@ -164,7 +164,7 @@ impl<N: TableName> LockedCache<N> {
         end_or_give_back::<N, _>(&mut self.journal, w, delete, t, answer)
     }
 
-    // Of how many rows an iterator goes over, how often they were fetched, and their bytes.
+    // The totals of an iterator: its rows, their hits and their bytes.
     pub(crate) fn totals(
         &mut self,
         table: &PinTable,

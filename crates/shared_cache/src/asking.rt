@@ -1,4 +1,4 @@
-//! What workers ask of the shared cache for an answer that takes memory.
+//! Calls of workers on the shared cache whose results take memory.
 
 ghost use Rattle.std.specs.Prelude.{◌≡◌, ◌<◌, ◌≤◌, ◌^◌, length, IfOk, OnErr};
 ghost use Rattle.apcu_model.specs.declared.request.Request.TheVariants as request;
@@ -20,13 +20,14 @@ use std::marker::Model;
 use std::sync::Wait;
 
 impl<N: TableName> Shared<N> {
-    /// Gives the value of a generator at the moment `t`, in seconds: that of the first key, from
-    /// outside in, under which a look-up finds a row, or else the literal inside. Each key that
-    /// missed counts a miss, and is then stored with the value unless a row lives there by now, the
-    /// innermost first, each with its own time to live; the key that was found counts a hit. All of
-    /// this is one event. The fate tells whether the outermost key was found, or stored.
+    /// Returns the value of a generator at the moment `t`, in seconds: that of the first key, from
+    /// the outermost inwards, under which a look-up finds a row, or else the innermost literal.
+    /// Each key that missed counts a miss, and the value is then stored under it unless it has a
+    /// live row by now, the innermost first, each with its own time to live; the key that was found
+    /// counts a hit. All of this is one event. The fate is whether the outermost key was found, or
+    /// stored.
     ///
-    /// Without memory for the value there was no event, and the pass comes back as it was. See
+    /// Without memory for the value there was no event, and the pass is returned as it was. See
     /// `apcu_entry` in the PHP manual.
     pub fn entry<R: Wait>(
         &self,
@@ -45,10 +46,10 @@ impl<N: TableName> Shared<N> {
         locked(&self.lock, rt).entry(&self.table, alloc, pass, generator, t)
     }
 
-    /// Tells of the row that a look-up of the key finds at the moment `t`, in seconds: its hits,
-    /// its moments and its time to live; None where it finds none. Nothing is counted.
+    /// Information about the row that a look-up of the key finds at the moment `t`, in seconds: its
+    /// hits, its moments and its time to live; None if it finds none. Nothing is counted.
     ///
-    /// Without memory for the answer there was no event, and the pass comes back as it was. See
+    /// Without memory for the result there was no event, and the pass is returned as it was. See
     /// `apcu_key_info` in the PHP manual.
     pub fn key_info<R: Wait>(
         &self,
@@ -67,11 +68,11 @@ impl<N: TableName> Shared<N> {
         locked(&self.lock, rt).key_info(&self.table, alloc, pass, key, t)
     }
 
-    /// Tells of the cache: its slots, its limit, what was counted, how many rows there are and
-    /// their bytes, and unless it is `limited` each row and each removed row. Its event has the
+    /// Information about the cache: its slots, its ttl, its counters, the number of rows and of
+    /// their bytes and, unless it is `limited`, each row and each removed row. Its event has the
     /// moment 0.
     ///
-    /// Without memory for the answer there was no event, and the pass comes back as it was. See
+    /// Without memory for the result there was no event, and the pass is returned as it was. See
     /// `apcu_cache_info` in the PHP manual.
     pub fn cache_info<R: Wait>(
         &self,
@@ -88,10 +89,10 @@ impl<N: TableName> Shared<N> {
         locked(&self.lock, rt).cache_info(&self.table, alloc, pass, limited)
     }
 
-    /// Tells of the memory that the rows share: its bytes, how many are free, and unless it is
-    /// `limited` where the free ones are. Its event has the moment 0.
+    /// Information about the memory that the rows share: its size in bytes, the number of free
+    /// bytes and, unless it is `limited`, the free blocks. Its event has the moment 0.
     ///
-    /// Without memory for the answer there was no event, and the pass comes back as it was. See
+    /// Without memory for the result there was no event, and the pass is returned as it was. See
     /// `apcu_sma_info` in the PHP manual.
     pub fn sma_info<R: Wait>(
         &self,
@@ -109,11 +110,11 @@ impl<N: TableName> Shared<N> {
     }
 
     /// One step of an iterator at the moment `t`, in seconds: the rows of a list whose keys the
-    /// search finds, as far as `fields` asks for them. Over the active rows it takes the fewest
-    /// slots, from the slot `from` on, that give at least `size` items, or all that are left; the
-    /// chunk tells the first slot behind them. All deleted rows are one step. Nothing is counted.
+    /// search finds, with the parts that `fields` selects. Over the active rows it takes the fewest
+    /// slots, from the slot `from` on, that have at least `size` items, or all that are left; the
+    /// chunk has the slot after them. All deleted rows are one step. Nothing is counted.
     ///
-    /// Without memory for the answer there was no event, and the pass comes back as it was. See
+    /// Without memory for the result there was no event, and the pass is returned as it was. See
     /// `APCUIterator` in the PHP manual.
     pub fn chunk<R: Wait>(
         &self,
@@ -150,10 +151,10 @@ impl<N: TableName> Shared<N> {
 
     /// Deletes the rows of one step of an iterator over the active rows at the moment `t`, in
     /// seconds, as one event: those whose keys the search finds in the fewest slots, from the slot
-    /// `from` on, that hold at least `size` of them, or in all that are left. A row that somebody
-    /// still copies is among the removed rows from then on. It answers the first slot behind them.
+    /// `from` on, that hold at least `size` of them, or in all that are left. A row from which a
+    /// worker still copies becomes a removed row. Returns the slot after the last one taken.
     ///
-    /// Without memory for the search there was no event, and the pass comes back as it was. See
+    /// Without memory for the search there was no event, and the pass is returned as it was. See
     /// `apcu_delete` of an iterator in the PHP manual.
     pub fn chunk_delete<R: Wait>(
         &self,
@@ -176,11 +177,10 @@ impl<N: TableName> Shared<N> {
         locked(&self.lock, rt).chunk_delete(&self.table, alloc, pass, search, from, size, t)
     }
 
-    /// Of how many rows of a list the search finds the keys at the moment `t`, in seconds, how
-    /// often they were fetched together (2^64 - 1 is that often or oftener), and how many bytes
-    /// their blocks have.
+    /// The totals of the rows of a list whose keys the search finds at the moment `t`, in seconds:
+    /// their number, the sum of their hits, which stops at 2^64 - 1, and the bytes of their blocks.
     ///
-    /// Without memory for the search there was no event, and the pass comes back as it was. See
+    /// Without memory for the search there was no event, and the pass is returned as it was. See
     /// `APCUIterator::getTotalCount` and its relatives in the PHP manual.
     pub fn totals<R: Wait>(
         &self,

@@ -1,4 +1,4 @@
-//! What follows from the words that the contracts speak of.
+//! What follows from the definitions that the contracts use.
 
 ghost use Rattle.shared_cache.specs.Turns.{CallsInTurn};
 

@@ -3,14 +3,13 @@
 //! It lives in one process and is for a bounded run: of at most `apcu_model::MOST_WORKERS` workers
 //! on threads, in at most 128 MB, and with at most `apcu_model::MOST_EVENTS` events of all workers
 //! together, their ends included. How many each may make is fixed when it is opened.
-//!
-//! `open_cache` takes all the memory, and `Fresh::name` gives the cache under its table's name, a
+//! `open_cache` takes all the memory, and `Fresh::name` returns the cache under its table's name, a
 //! pass for each worker, and room for those that end. Each call of a worker is one event: it takes
-//! the worker's pass, waits for the lock, and gives the pass back with one event less left. What it
-//! answers is what the cache of one thread answers at that place of the history. A fetch is
-//! `Shared::pin`; a value that it finds is then copied by `Shared::copy_out`, or as its text by
-//! `Shared::copy_text`, without the lock. A call that finds no memory for its answer is no event,
-//! and its pass comes back as it was. Once every worker has ended, `Shared::close` gives the
+//! the worker's pass, waits for the lock, and returns the pass with one event less left. Its result
+//! is that of the single-threaded cache at that place of the history. A fetch is `Shared::pin`; a
+//! value that it finds is then copied by `Shared::copy_out`, or as its text by `Shared::copy_text`,
+//! without the lock. A call that finds no memory for its result is no event, and returns its pass
+//! as it was. Once every worker has ended, `Shared::close` returns the journal of all events.
 //! journal of all events.
 #![tactic(auto)]
 

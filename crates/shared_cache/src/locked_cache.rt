@@ -1,4 +1,4 @@
-//! What stands behind the lock.
+//! What the lock guards.
 
 ghost use Rattle.std.specs.Prelude.{◌≡◌, ℕ, ◌<◌, ◌^◌, true, length};
 ghost use Rattle.apcu_model.specs.declared.request.Request.TheVariants as request;
@@ -31,25 +31,25 @@ use value_image::images_are_runs;
 /// What a fetch finds.
 #[derive(Drop)]
 pub enum Pinned {
-    /// A value that `Shared::copy_out` or `Shared::copy_text` copies without the lock. Its block
-    /// stays until then.
+    /// A value that `Shared::copy_out` or `Shared::copy_text` copies without the lock. Its block is
+    /// pinned until then.
     Hit(Copying),
-    /// Null, a truth value or an integer, which is answered at once.
+    /// Null, a boolean or an integer, which is returned at once.
     Scalar(Pass, Scalar),
     /// No live row has the key.
     Miss(Pass),
 }
 
-/// What is left of a cache once all its workers have ended.
+/// What is left of a cache after all its workers have ended.
 #[derive(Drop)]
 pub struct Closed {
     /// The marks of all events, in the order in which they took effect.
     pub journal: Journal,
-    /// What was counted.
+    /// The counters.
     pub counts: Counts,
 }
 
-// The right to write, the journal, and what the cache keeps beside the words. Contracts see the
+// The right to write, the journal, and what the cache keeps outside the words. Contracts see the
 // history.
 pub(crate) struct LockedCache<N: TableName> {
     pub(crate) seat: WriterSeat,
@@ -112,7 +112,7 @@ impl<N: TableName> LockedCache<N> {
         (end::<N>(&mut self.journal, w, Ask::Exists(key), t), found)
     }
 
-    // Deletes the row that a look-up of the key finds; whether it finds one.
+    // Deletes the row that a look-up of the key finds, and returns whether it found one.
     pub(crate) fn delete(
         &mut self,
         table: &PinTable,
@@ -131,7 +131,7 @@ impl<N: TableName> LockedCache<N> {
         (end::<N>(&mut self.journal, w, Ask::Delete(key), t), found)
     }
 
-    // Drops all rows, and forgets all that was counted.
+    // Drops all rows, and sets all counters to 0.
     pub(crate) fn clear(&mut self, table: &PinTable, pass: Pass, t: u64) -> Pass
         requires table { table.now ≡ N.table }
         requires pass { MayAsk N.table 1 pass }
@@ -142,8 +142,8 @@ impl<N: TableName> LockedCache<N> {
         end::<N>(&mut self.journal, w, Ask::Clear, t)
     }
 
-    // Stores a value under a key, or with `exclusive` only where no live row has it; whether it was
-    // stored.
+    // Stores a value under a key, or with `exclusive` only if no live row has it, and returns
+    // whether it was stored.
     pub(crate) fn store(
         &mut self,
         table: &PinTable,
@@ -171,7 +171,7 @@ impl<N: TableName> LockedCache<N> {
         (end::<N>(&mut self.journal, w, ask, t), was_stored(answer))
     }
 
-    // Counts by the step: the integer of the row that a look-up of the key finds, or from 0 where
+    // Counts by the step: from the integer of the row that a look-up of the key finds, or from 0 if
     // it finds none.
     pub(crate) fn inc(
         &mut self,
@@ -195,8 +195,8 @@ impl<N: TableName> LockedCache<N> {
         (end::<N>(&mut self.journal, w, ask, t), answer)
     }
 
-    // Sets the integer of the row that a look-up of the key finds, where it is the expected one;
-    // whether it is.
+    // Sets the integer of the row that a look-up of the key finds, if it is the expected one, and
+    // returns whether it is.
     pub(crate) fn cas(
         &mut self,
         table: &PinTable,
@@ -229,7 +229,7 @@ impl<N: TableName> LockedCache<N> {
         w.give_ended()
     }
 
-    // Fetches the value of a key, and pins its block where it is copied outside the lock.
+    // Fetches the value of a key, and pins its block if it is copied outside the lock.
     pub(crate) fn pin(&mut self, table: &PinTable, pass: Pass, key: &[u8], t: u64) -> Pinned
         requires table { table.now ≡ N.table }
         requires pass { MayAsk N.table 1 pass }
@@ -252,7 +252,7 @@ impl<N: TableName> LockedCache<N> {
         }
     }
 
-    // The pass sees all events so far, those of the ended worker among them.
+    // The pass sees all events so far, those of the ended worker included.
     pub(crate) fn learn(&mut self, table: &PinTable, pass: Pass, ended: Ended) -> (Pass, Ended)
         requires table { table.now ≡ N.table }
         requires pass { MayAsk N.table 1 pass }
@@ -278,7 +278,7 @@ impl<N: TableName> LockedCache<N> {
         w.give_seen()
     }
 
-    // Both passes see all events so far, those among them that the other one has seen.
+    // Both passes see all events so far, which include those that the other one has seen.
     pub(crate) fn meet(&mut self, table: &PinTable, pass: Pass, other: Pass) -> (Pass, Pass)
         requires table { table.now ≡ N.table }
         requires pass { MayAsk N.table 1 pass }
@@ -290,7 +290,7 @@ impl<N: TableName> LockedCache<N> {
         (pass, other)
     }
 
-    // The journal and the counts, once every worker has ended. No word is copied.
+    // The journal and the counters, after every worker has ended. No word is copied.
     pub(crate) fn close(self, table: PinTable, ended: EndedList) -> Closed
         requires table { table ≡ N.table }
         requires ended { AllOf N.table ended.ended }
@@ -309,7 +309,7 @@ impl<N: TableName> LockedCache<N> {
         Closed { journal, counts }
     }
 
-    // The journal and the counts, once every worker has ended, and the cache with its words.
+    // The journal and the counters, after every worker has ended, and the cache with its words.
     pub(crate) fn close_all(self, table: PinTable, ended: EndedList) -> (Closed, Core, VecWords)
         requires table { table ≡ N.table }
         requires ended { AllOf N.table ended.ended }

@@ -6,7 +6,7 @@ use apcu_model::{events_keep, held_alike, numbered, one_event_more};
 use entry_slots::{standing_laws, window_laws};
 use pin_table::rule_laws;
 
-// Gathers the laws of the crates below that the calls here rest on.
+// Gathers the laws of the crates below that the calls here use.
 pub(crate) fn lower_laws()
     ensures { LockLaws }
 {

@@ -20,8 +20,8 @@ use std::sync::Wait;
 /// Why a cache was not opened.
 #[derive(Clone, Copy, Debug, PartialEq, Eq)]
 pub enum OpenFault {
-    /// The shape is none that a cache can have; or there are more than `MOST_WORKERS` budgets, one
-    /// is 0, or their sum is above `MOST_EVENTS`.
+    /// The shape is not one that a cache can have; or there are more than `MOST_WORKERS` budgets,
+    /// one is 0, or their sum is above `MOST_EVENTS`.
     BadConf,
     /// There was not enough memory.
     Memory,
@@ -35,7 +35,7 @@ impl From<AllocError> for OpenFault {
     }
 }
 
-// How many events the workers may make, all together; None where these are no budgets.
+// How many events the workers may make, all together; None if these are no budgets.
 fn total(budgets: &[u32]) -> Option<u32>
     ensures some { IfSome result (λ n. n ≡ sum budgets.now) }
     ensures good { IfSome result (λ _. AreBudgets budgets.now) }
@@ -103,8 +103,8 @@ impl Model for Fresh {
 /// each may make, its end included. There are at most `MOST_WORKERS`, and all together at most
 /// `MOST_EVENTS` of `apcu_model`.
 ///
-/// All memory that the cache ever needs is taken here, but for what is copied out of it. `rt` is
-/// the leave to wait, as `main`'s `HostRuntime` is; nobody is waited for here.
+/// All memory that the cache ever needs is taken here, except for what is copied out of it. `rt` is
+/// the permission to wait, as `main`'s `HostRuntime` is; this call waits for nothing.
 pub fn open_cache<R: Wait>(
     rt: &R,
     alloc: Global,
@@ -127,7 +127,7 @@ pub fn open_cache<R: Wait>(
     Ok(opened(alloc, conf, budgets, events)?)
 }
 
-// The cache, once nothing but memory speaks against it.
+// The cache, when only missing memory can prevent it.
 fn opened(alloc: Global, conf: &Conf, budgets: &[u32], events: u32) -> Result<Fresh, AllocError>
     requires may { MayOpen conf.now budgets.now }
     requires events { events ≡ sum budgets.now }
@@ -152,19 +152,19 @@ fn opened(alloc: Global, conf: &Conf, budgets: &[u32], events: u32) -> Result<Fr
 }
 
 impl Fresh {
-    /// The cache under a name of its table, shared by all who have it, with a pass for each worker,
-    /// the last one's last, and a list that has room for the ends of all. The cache is empty and no
-    /// worker has seen an event. It takes no memory.
+    /// The cache under a name of its table, shared by all that have it, with a pass for each
+    /// worker, that of the last worker last, and a list that has room for the ends of all. The
+    /// cache is empty and no worker has seen an event. It takes no memory.
     ///
     /// Call it in a function that is generic over `N: TableName` and requires that table, conf and
     /// budgets of `N` are those of the `Fresh`. Call that function with `std::marker::Brand` for
-    /// `N`, and pick the three in the `Invariants.antt` of its caller. Where it is `f`, and `fresh`
+    /// `N`, and pick the three in the `Invariants.antt` of its caller. If it is `f`, and `fresh`
     /// its argument, that is
     ///
     ///     ghosts-f g a = record { table = a.fresh.table; conf = a.fresh.conf;
     ///         budgets = a.fresh.budgets }
     ///
-    /// `both_work`, in `cache_tests/src/shared_readme.rt`, is such a function, and a test its caller.
+    /// `both_work`, in `cache_tests/src/shared_readme.rt`, is such a function, and a test calls it.
     pub fn name<N: TableName>(self) -> (Shared<N>, Passes, EndedList)
         requires table { N.table ≡ self.table }
         requires conf { N.conf ≡ self.conf }

@@ -6,7 +6,7 @@ use apcu_model::{Journal, Mark};
 use pin_table::Writer;
 use seg_words::Segment;
 
-// Records the event that ends next: whose it is, and the workers that it has met.
+// Records the event that ends next: its worker, and the workers that its probes found.
 pub(crate) fn record_event(journal: &mut Journal, w: &Writer<'_>)
     requires room { 0 < journal.old.room }
     ensures marks { journal.new.marks ≡ journal.old.marks

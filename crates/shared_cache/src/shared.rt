@@ -34,11 +34,11 @@ use value_image::unpersist;
 
 /// A cache that many workers share. Its table, its shape and its budgets are those of its name.
 ///
-/// Each call of a worker takes the worker's pass, waits for the lock, is one event, and gives the
-/// pass back with one event less left. What it answers is what the cache of one thread answers at
-/// the end of the history that the pass has then seen. But for `retire` each leaves the worker at
-/// least one event for its end, so it asks for two: `Pass::left` says how many there are. A key has
-/// fewer than 2^32 bytes. A moment may be any second, also one before that of an earlier call.
+/// Each call of a worker takes the worker's pass, waits for the lock, is one event, and returns the
+/// pass with one event less left. Its result is that of the single-threaded cache at the end of the
+/// history that the pass has then seen. Each call except `retire` leaves the worker at least one
+/// event for its end, so it requires two: `Pass::left` is their number. A key has fewer than 2^32
+/// bytes. A moment may be any second, also one before that of an earlier call.
 pub struct Shared<N: TableName> {
     // for the empty list of further places that a new counter's value has
     pub(crate) alloc: Global,
@@ -69,7 +69,7 @@ impl<N: TableName> Model for Shared<N> {
     ghost invariant = { λ s. s.table ≡ N.table };
 }
 
-// What the counter is now, if it counted.
+// The counter's new value, if it counted.
 fn number_of(answer: IncAnswer) -> Option<i64>
     ensures { number_reply result ≡ reply_of answer }
 {
@@ -90,8 +90,8 @@ impl<N: TableName> Shared<N> {
         }
     }
 
-    /// Stores a value under a key at the moment `t`, in seconds, or with `exclusive` only where no
-    /// live row has the key; whether it was stored. `ttl` is in seconds, 0 is no limit.
+    /// Stores a value under a key at the moment `t`, in seconds, or with `exclusive` only if no
+    /// live row has the key, and returns whether it was stored. `ttl` is in seconds, 0 is no limit.
     pub fn store<R: Wait>(
         &self,
         rt: &R,
@@ -120,8 +120,8 @@ impl<N: TableName> Shared<N> {
         locked(&self.lock, rt).exists(&self.table, pass, key, t)
     }
 
-    /// Deletes the row that a look-up of the key finds at the moment `t`, in seconds; whether it
-    /// finds one.
+    /// Deletes the row that a look-up of the key finds at the moment `t`, in seconds, and returns
+    /// whether it found one.
     pub fn delete<R: Wait>(&self, rt: &R, pass: Pass, key: &[u8], t: u64) -> (Pass, bool)
         requires pass { MayAsk N.table 2 pass }
         requires short { length key.now < 2 ^ 32 }
@@ -131,7 +131,7 @@ impl<N: TableName> Shared<N> {
         locked(&self.lock, rt).delete(&self.table, pass, key, t)
     }
 
-    /// Drops all rows at the moment `t`, in seconds, and forgets all that was counted.
+    /// Drops all rows at the moment `t`, in seconds, and sets all counters to 0.
     pub fn clear<R: Wait>(&self, rt: &R, pass: Pass, t: u64) -> Pass
         requires pass { MayAsk N.table 2 pass }
         ensures { Follows N.conf (length N.budgets) pass result t request.Clear (reply.Flag true) }
@@ -139,10 +139,10 @@ impl<N: TableName> Shared<N> {
         locked(&self.lock, rt).clear(&self.table, pass, t)
     }
 
-    /// Counts by the step at the moment `t`, in seconds: the integer of the row that a look-up of
-    /// the key finds and the step, in 64 bits with a sign, where the sum wraps. Where it finds no
-    /// row, a new one counts from 0 and lives for `ttl` seconds; 0 is no limit. What the counter is
-    /// now, or None where the value is no integer or a new row finds no place. It takes no memory.
+    /// Adds the step at the moment `t`, in seconds, to the integer of the row that a look-up of the
+    /// key finds, as signed 64-bit numbers; the sum wraps. If it finds no row, a new one counts
+    /// from 0 and lives for `ttl` seconds; 0 is no limit. Returns the counter's new value, or None
+    /// if the value is no integer or there is no room for a new row. It takes no memory.
     pub fn inc<R: Wait>(
         &self,
         rt: &R,
@@ -169,8 +169,8 @@ impl<N: TableName> Shared<N> {
         (pass, number_of(answer))
     }
 
-    /// Sets the integer under a key at the moment `t`, in seconds, where a look-up finds a row that
-    /// holds `expect`; whether it does. It makes no row.
+    /// Sets the integer under a key at the moment `t`, in seconds, if a look-up finds a row that
+    /// holds `expect`, and returns whether it did. It makes no row.
     pub fn cas<R: Wait>(
         &self,
         rt: &R,
@@ -188,8 +188,8 @@ impl<N: TableName> Shared<N> {
         locked(&self.lock, rt).cas(&self.table, pass, key, expect, set, t)
     }
 
-    /// Fetches the value of a key at the moment `t`, in seconds. Null, a truth value or an integer
-    /// is answered at once; any other value stays in its block until `copy_out` or `copy_text` has
+    /// Fetches the value of a key at the moment `t`, in seconds. Null, a boolean or an integer is
+    /// returned at once; any other value is pinned in its block until `copy_out` or `copy_text` has
     /// copied it. It takes no memory.
     pub fn pin<R: Wait>(&self, rt: &R, pass: Pass, key: &[u8], t: u64) -> Pinned
         requires pass { MayAsk N.table 2 pass }
@@ -199,8 +199,8 @@ impl<N: TableName> Shared<N> {
         locked(&self.lock, rt).pin(&self.table, pass, key, t)
     }
 
-    /// Copies the value that a fetch found, and gives its block free. It waits for nobody, and is
-    /// no event. Without memory for the value the fetch stands all the same, and the block is free.
+    /// Copies the value that a fetch found, and unpins its block. It does not wait, and is no
+    /// event. Without memory for the value the fetch still counts, and the block is unpinned.
     pub fn copy_out(&self, alloc: Global, copying: Copying) -> (Pass, Result<Graph, AllocError>)
         requires table { copying.table ≡ N.table }
         requires image { (g : List Kind)
@@ -223,10 +223,9 @@ impl<N: TableName> Shared<N> {
         (copying.release(&self.table), value)
     }
 
-    /// Appends the text of the value that a fetch found, and gives its block free. It waits for
-    /// nobody, and is no event. A string goes from its words into `out` without a copy between
-    /// them. Without memory the fetch stands all the same, the block is free, and `out` stays as
-    /// it was.
+    /// Appends the text of the value that a fetch found, and unpins its block. It does not wait,
+    /// and is no event. A string is written from its words into `out` without a copy between them.
+    /// Without memory the fetch still counts, the block is unpinned, and `out` is unchanged.
     pub fn copy_text(
         &self,
         alloc: Global,
@@ -251,7 +250,7 @@ impl<N: TableName> Shared<N> {
         (pass, write_copy(value, out))
     }
 
-    // Appends the text of the value that is copied, where it is a string.
+    // Appends the text of the value that is copied, if it is a string.
     fn copy_string(
         &self,
         copying: &mut Copying,
@@ -286,9 +285,9 @@ impl<N: TableName> Shared<N> {
         locked(&self.lock, rt).retire(&self.table, pass)
     }
 
-    /// Has a worker see all events so far, those of a worker that has ended among them. It is no
-    /// event, and the ended one comes back as it was. It changes only what contracts say of the
-    /// pass: it is for proofs that what this worker does next comes after all of these.
+    /// Has a worker see all events so far, those of a worker that has ended included. It is no
+    /// event, and returns the ended one as it was. It changes only what contracts say of the pass:
+    /// it is for proofs that what this worker does next comes after all of these.
     pub fn learn<R: Wait>(&self, rt: &R, pass: Pass, ended: Ended) -> (Pass, Ended)
         requires pass { MayAsk N.table 1 pass }
         requires other { ended.table ≡ N.table }
@@ -298,7 +297,7 @@ impl<N: TableName> Shared<N> {
         locked(&self.lock, rt).learn(&self.table, pass, ended)
     }
 
-    /// Has two workers see all events so far, each those among them that the other one has seen. It
+    /// Has two workers see all events so far, which include those that the other one has seen. It
     /// is no event. It changes only what contracts say of the passes: it is for proofs that what
     /// either does next comes after all that both have done.
     pub fn meet<R: Wait>(&self, rt: &R, pass: Pass, other: Pass) -> (Pass, Pass)
@@ -309,9 +308,9 @@ impl<N: TableName> Shared<N> {
         locked(&self.lock, rt).meet(&self.table, pass, other)
     }
 
-    /// Gives the journal and the counts, once every worker has ended: `ended` has the end of each,
-    /// in any order, which a caller has to prove. It waits for nobody, takes no memory, and copies
-    /// no word of the cache.
+    /// Returns the journal and the counters, after every worker has ended: `ended` has the end of
+    /// each, in any order, which a caller has to prove. It does not wait, takes no memory, and
+    /// copies no word of the cache.
     pub fn close<R: Wait>(self, rt: &R, ended: EndedList) -> Closed
         requires table { AllOf N.table ended.ended }
         requires every { (w : ℕ) → w < length N.budgets
@@ -327,9 +326,9 @@ impl<N: TableName> Shared<N> {
         lock.into_inner().close(table, ended)
     }
 
-    /// Gives the journal and the counts, once every worker has ended, and beside them the cache and
-    /// its words, which stand for it: the cache of one thread after the journal. It waits for
-    /// nobody and takes no memory.
+    /// Returns the journal and the counters, after every worker has ended, and also the cache and
+    /// its words, which represent it: the single-threaded cache after the journal. It does not wait
+    /// and takes no memory.
     pub fn close_all<R: Wait>(self, rt: &R, ended: EndedList) -> (Closed, Core, VecWords)
         requires table { AllOf N.table ended.ended }
         requires every { (w : ℕ) → w < length N.budgets

@@ -1,4 +1,4 @@
-//! The text of a string, out of its image.
+//! The text of a string, written from its image.
 
 ghost use Rattle.std.specs.Prelude.{◌≡◌, ◌++◌, ℕ, List, Some, None, length, OnOk, OnErr};
 ghost use Rattle.std.specs.Prelude.{IfSome, IfNone, IfOk};
@@ -14,11 +14,11 @@ use seg_words::WordsIn;
 use std::alloc::AllocError;
 use value_image::{push_string, string_len};
 
-// For how many bytes behind those of the string there is to be room: they end its text and mostly
+// How many bytes there should be room for after those of the string: they end its text and mostly
 // the line.
 const BEHIND: usize = 16;
 
-// Appends the string's head, its bytes, which go there from their words, and its end.
+// Appends the string's head, its bytes, directly from their words, and its end.
 fn put_string<W: WordsIn>(
     from: &mut W,
     at: u32,
@@ -45,8 +45,8 @@ fn put_string<W: WordsIn>(
     out.push(b"\";")
 }
 
-// Appends the text of the value whose image stands at place `at`, where it is a string. Without
-// memory `out` stays as it was, and also where the value is another one.
+// Appends the text of the value whose image is at place `at`, if it is a string. `out` is unchanged
+// without memory, and also if the value is another one.
 pub(crate) fn write_string<W: WordsIn>(
     from: &mut W,
     at: u32,

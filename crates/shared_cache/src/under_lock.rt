@@ -1,4 +1,4 @@
-//! A worker's event under the lock: how it begins, and how it ends.
+//! A worker's event under the lock: its begin and its end.
 
 ghost use Rattle.std.specs.Prelude.{◌≡◌, true, length, None, IfOk, OnErr};
 ghost use Rattle.apcu_model.specs.declared.request.Reply.{Reply};
@@ -20,8 +20,8 @@ use pin_table::{Pass, PinTable, TableName, Writer, WriterSeat};
 use seg_words::WordsIn;
 use std::alloc::AllocError;
 
-// Takes the pass, and its worker's event begins. The cores and journals that agree with the seat
-// are told of as they are now.
+// Takes the pass, and begins its worker's event. The invariant of the lock is expressed for the
+// cores and journals as they are now.
 pub(crate) fn begin<'a, N: TableName>(
     table: &'a PinTable,
     seat: &'a mut WriterSeat,
@@ -67,9 +67,9 @@ pub(crate) fn end<'a, N: TableName>(
     w.give_pass(ask, t)
 }
 
-// Ends what a call does under the lock that takes memory. With its answer the event is recorded;
-// without memory for it there was none, and the pass comes back as it was. What each answer is as a
-// reply, the caller says.
+// Ends a call under the lock that takes memory. If it has a result, the event is recorded; if there
+// was no memory for one, there was no event, and the pass is returned as it was. The caller states
+// which reply each result corresponds to.
 pub(crate) fn end_or_give_back<'a, N: TableName, A>(
     journal: &mut Journal,
     w: Writer<'a>,

@@ -1,16 +1,16 @@
-//! A lock that nobody takes without the handle that may wait.
+//! A lock that can be taken only with the handle that may wait.
 
 use std::sync::{Mutex, MutexGuard, Wait};
 use std::thread::yield_now;
 
-// How often the lock is tried before its queue is joined.
+// How often the lock is tried before the thread queues for it.
 const TRIES: u32 = 40;
 
-// The most turns between two tries.
+// The longest pause between two tries, in turns of the loop.
 const LONGEST_GAP: u32 = 64;
 
-// A mutex can be tried without a handle. So it stands behind this type, whose one way in is
-// `locked`, which takes a handle: a call that has none cannot have what the lock guards.
+// A mutex can be tried without a handle. So it is inside this type, whose only access is `locked`,
+// which takes a handle: a call that has none cannot reach what the lock guards.
 pub(crate) struct WaitLock<T> {
     mutex: Mutex<T>,
 }
@@ -34,16 +34,16 @@ impl<T> WaitLock<T> {
     }
 }
 
-// Lets other threads run, so many times.
+// Lets other threads run, `works` times.
 fn idle(works: u32) {
     for _ in 0..works {
         yield_now();
     }
 }
 
-// Takes the lock. It is tried with longer and longer gaps first: a thread that has just had it, and
-// has what it guards in its processor's cache, then mostly goes on, and nobody sleeps. In the gaps
-// others may run, whoever has the lock among them.
+// Takes the lock. It is tried first, with increasing pauses: a thread that has just released it,
+// and has what it guards in its processor's cache, then mostly continues, and no thread sleeps. In
+// the pauses other threads may run, the lock's owner included.
 pub(crate) fn locked<'a, T, R: Wait>(lock: &'a WaitLock<T>, rt: &R) -> MutexGuard<'a, T> {
     let mut gap = 1u32;
     for _ in 0..TRIES {
