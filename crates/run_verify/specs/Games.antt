@@ -29,7 +29,7 @@ game_begun conf scripts = record {
 abbrev pub game_after : Game → Mark → Game
 game_after g mark = record g { play = unwrap_or (marked g.conf g.scripts g.play mark) g.play }
 
--- The replay stands where the play is, and each seat is that of its worker after its replies.
+-- The replay is at the stage of the play, and each seat is that of its worker after its replies.
 pub record IsGame (conf : Conf) (scripts : List (List Step)) (replay : Replayed)
     (seats : List Seat) (g : Game) : Type 0 where
   pub conf_is : g.conf ≡ conf
@@ -41,22 +41,22 @@ pub record IsGame (conf : Conf) (scripts : List (List Step)) (replay : Replayed)
   pub seated : (v : ℕ) (script : List Step) (seat : Seat) → slice_get scripts v ≡ Some script
       → slice_get seats v ≡ Some seat → IsSeat conf script (replies_of g.play v) seat
 
--- a game of these scripts begins with these seats, whatever the clock, on a cache that nothing was
--- asked of
+-- a game of these scripts begins with these seats, whatever the clock, on a cache to which no
+-- request was made
 abbrev pub BeginsGame : List (List Step) → List Seat → Type 0
 BeginsGame scripts seats =
     (conf : Conf) (clock : Clock) (left : ℕ)
     → IsGame conf (all_timed clock scripts) (record { stage = start_of conf; left = left }) seats
     (game_begun conf (all_timed clock scripts))
 
--- whether nothing more is wanted of the scripts, in a game that has come to these seats
+-- whether no worker wants anything more, in a game that has reached these seats
 abbrev pub KnowsEnd : List (List Step) → List Seat → Bool → Type 0
 KnowsEnd scripts seats done =
     (conf : Conf) (clock : Clock) (replay : Replayed) (g : Game)
     → IsGame conf (all_timed clock scripts) replay seats g
     → done ≡ are_done conf (all_timed clock scripts) g.play.replies
 
--- these are the lines of the workers' calls, where a game has come to these seats and all is done
+-- these are the lines of the workers' calls, if a game has reached these seats and all are done
 abbrev pub TellsAll : List Seat → List (List ℕ) → Type 0
 TellsAll seats texts =
     (conf : Conf) (scripts : List (List Step)) (replay : Replayed) (g : Game)

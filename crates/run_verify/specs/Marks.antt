@@ -1,4 +1,4 @@
--- What becomes of a mark.
+-- Playing a mark.
 use Rattle.std.specs.Prelude.{◌≡◌, ◌+◌, Bool, true, false, List, [], ◌∷◌, ◌++◌, Some, None}
 use Rattle.apcu_model.specs.declared.conf.Conf.{Conf}
 use Rattle.apcu_model.specs.declared.journal.Mark.{Mark}
@@ -11,7 +11,7 @@ use Rattle.run_verify.specs.declared.seat.Seat.{Seat}
 use Rattle.run_verify.specs.Seats.{IsSeat}
 
 -- The worker wants something: its event was made at the stage that was reached, with the mask of
--- the mark, and it has the reply of one thread there more.
+-- the mark, and it has one more reply, that of the single-threaded cache there.
 pub record IsMade (conf : Conf) (script : List Step) (replies : List Reply) (old new : Replayed)
     (seat : Seat) (mark : Mark) : Type 0 where
   pub wish : Wish

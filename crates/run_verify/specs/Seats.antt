@@ -24,7 +24,7 @@ use Rattle.run_verify.specs.declared.asking.Query.{Query}
 use Rattle.run_verify.specs.declared.asking.Query.TheVariants.{Lent, Made}
 use Rattle.run_verify.specs.declared.seat.Seat.{Seat}
 
--- what is asked after k replies, by a walk from this slot on
+-- what is requested after k replies, by a walk from this slot on
 abbrev pub next_from : ℕ → Asking → ℕ → ℕ → List Reply → Next
 next_from slots (Each asked) k from replies = asks_each (drop k asked) replies
 next_from slots (Steps ask) k from replies = asks_steps slots ask from replies
@@ -34,39 +34,39 @@ abbrev pub asks_or : Option Request → Next
 asks_or (Some request) = Asks request
 asks_or None = Leaves []
 
--- whether it asks
+-- whether it is a request
 abbrev pub is_asking : Next → Bool
 is_asking (Asks request) = true
 is_asking (Leaves others) = false
 
--- the request that is asked
+-- the request that is made
 abbrev pub queried : Query → Request
 queried (Lent ask) = asked ask
 queried (Made request) = request
 
--- what such a call asks lies in its script: it is on no pool
+-- what such a call requests is in its script: it is on no pool
 abbrev pub IsLent : Call → Type 0
 IsLent (Pool call) = ⊥
 IsLent _ = Unit {0}
 
--- it goes on so: with the request of the event of this number, or it is done where there is none
+-- it continues with the request of the event of this number, or it is done if there is none
 abbrev pub IsNextEvent : PoolCall → Next → Option ℕ → Type 0
 IsNextEvent call next (Some event) =
     (request : Request) × (request_at call event ≡ Some request) × (next ≡ Asks request)
 IsNextEvent call next None = next ≡ Leaves []
 
--- the key, if there is one, is the next that a call on these keys asks for, whatever it asks
+-- the key, if there is one, is the next that a call on these keys uses, whatever it requests
 abbrev pub AsksKeys : List (List ℕ) → ℕ → Option (List ℕ) → Type 0
 AsksKeys keys k found =
     (ask : List ℕ → Request) → asks_or (option_map ask found) ≡ asks_each (drop k (map ask keys)) []
 
--- so is the pair of these
+-- the same for the pair of these
 abbrev pub AsksPairs : List (List ℕ × List Kind) → ℕ → Option (List ℕ × List Kind) → Type 0
 AsksPairs pairs k found =
     (ask : (List ℕ × List Kind) → Request)
     → asks_or (option_map ask found) ≡ asks_each (drop k (map ask pairs)) []
 
--- The call goes on so after its replies.
+-- The call continues like this after its replies.
 pub record IsAmidCall (conf : Conf) (call : Call) (seat : Seat) : Type 0 where
   pub next : (more : List Reply) → next_of conf call (seat.replies ++ more)
       ≡ next_from conf.slots (asking_of call) (length seat.replies) seat.from more
@@ -84,26 +84,26 @@ pub record IsSeat (conf : Conf) (script : List Step) (replies : List Reply) (sea
   pub call : (step : Step) → slice_get script seat.step ≡ Some step
       → IsAmidCall conf step.call seat
 
--- its call, if there is one, asks something
+-- its call, if there is one, makes a request
 pub record IsAsking (conf : Conf) (script : List Step) (seat : Seat) : Type 0 where
   pub asks : (step : Step) → slice_get script seat.step ≡ Some step
       → (request : Request)
       × (next_from conf.slots (asking_of step.call) (length seat.replies) seat.from []
       ≡ Asks request)
 
--- of some replies it is the seat
+-- it is the seat after some replies
 pub record IsAnySeat (conf : Conf) (script : List Step) (seat : Seat) : Type 0 where
   pub replies : List Reply
   pub at : IsSeat conf script replies seat
 
--- it stands at the next call, and nothing else has changed but the text
+-- it is at the next call, and nothing else has changed except the text
 pub record IsNextCall (text : List ℕ) (old new : Seat) : Type 0 where
   pub step : new.step ≡ old.step + 1
   pub replies : new.replies ≡ []
   pub from : new.from ≡ 0
   pub text_is : new.text ≡ old.text ++ text
 
--- it has this reply more, and nothing else has changed
+-- it has one more reply, this one, and nothing else has changed
 pub record HasReplyMore (conf : Conf) (reply : Reply) (old new : Seat) : Type 0 where
   pub step : new.step ≡ old.step
   pub replies : new.replies ≡ old.replies ++ reply ∷ []
@@ -124,7 +124,7 @@ pub record IsSearching (script : List Step) (old new : Seat) : Type 0 where
 abbrev pub queried_wish : Query × ℕ → Wish
 queried_wish w = record { request = queried w.0; t = w.1 }
 
--- it may be asked with the search for the call that the seat is at
+-- it may be made with the search for the call that the seat is at
 pub record IsAskable (conf : Conf) (script : List Step) (seat : Seat) (request : Request)
     : Type 0 where
   pub may : (searched : Option Pattern)
@@ -132,7 +132,7 @@ pub record IsAskable (conf : Conf) (script : List Step) (seat : Seat) (request :
       → searched ≡ call_pattern step.call)
       → MayBeAsked conf searched request
 
--- a seat whose call has asked has the search for its pattern
+-- a seat whose call has made a request has the search for its pattern
 abbrev pub KnowsPattern : List Step → Seat → Type 0
 KnowsPattern script seat =
     (step : Step) → slice_get script seat.step ≡ Some step → seat.replies ≢ []

@@ -4,13 +4,13 @@ use Rattle.std.specs.Fmt.{decimal}
 use Rattle.script_read.specs.Grammar.{ends_line}
 use Rattle.run_verify.specs.Verdicts.{first_difference}
 
--- the piece stands in the output from `at` on, up to `to`
+-- the piece is in the output from `at` on, up to `to`
 pub record HasPiece (output : List ℕ) (at : ℕ) (piece : List ℕ) (to : ℕ) : Type 0 where
   pub end : to ≡ at + length piece
   pub within : to ≤ length output
   pub stands : drop at output ≡ piece ++ drop to output
 
--- whatever follows on the piece, the output differs from it first at `place`, counted from `at` on
+-- whatever follows the piece, the output differs from it first at `place`, counted from `at` on
 pub record DiffersAt (output : List ℕ) (at : ℕ) (piece : List ℕ) (place : ℕ) : Type 0 where
   pub from : ℕ
   pub place_is : place ≡ at + from

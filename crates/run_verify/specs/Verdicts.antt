@@ -16,13 +16,13 @@ use Rattle.run_verify.specs.declared.verifying.Verdict.TheVariants.{Yes, NoJourn
 
 -- ---- the journal part
 
--- what follows the line `journal` at the text's front, if it stands there and no later one does
+-- what follows the line `journal` at the text's front, if it is there and no later one is
 abbrev pub behind : List ℕ → Bool → Option (List ℕ) → Option (List ℕ)
 behind text here (Some later) = Some later
 behind text here None = if here then Some (drop 8 text) else None
 
 -- What follows the last line `journal`: the last place of these eight bytes where a line begins.
--- Whether one begins at the text's front is told.
+-- The flag is whether a line begins at the text's front.
 abbrev pub journal_from : Bool → List ℕ → Option (List ℕ)
 journal_from begins [] = None
 journal_from begins (byte ∷ bytes) =
@@ -35,7 +35,7 @@ journal_part output = journal_from true output
 
 -- ---- lines
 
--- a byte more at the front of the first line
+-- one more byte at the front of the first line
 abbrev pub with_byte : ℕ → List (List ℕ) → List (List ℕ)
 with_byte byte [] = (byte ∷ []) ∷ []
 with_byte byte (line ∷ lines) = (byte ∷ line) ∷ lines
@@ -48,36 +48,36 @@ lines_of (byte ∷ bytes) =
 
 -- ---- marks
 
--- a number with a digit more behind it; from `MOST_WORKERS` on, where no worker is, it is that
+-- a number with one more digit; from `MOST_WORKERS` on, where no worker is, it stays there
 abbrev pub digit_more : ℕ → ℕ → ℕ
 digit_more n byte = min MOST_WORKERS (n * 10 + (byte - 48))
 
--- a mask with a worker more, who is above those in it
+-- a mask with one more worker, which is above those in it
 abbrev pub worker_more : ℕ → ℕ → ℕ
 worker_more mask w = if nat_lt w MOST_WORKERS && nat_lt mask (2 ^ w) then mask + 2 ^ w else mask
 
--- a number more: the first is the worker's own, the others are those of the mask
+-- one more number: the first is the worker's own, the others are those of the mask
 abbrev pub number_more : Option Mark → ℕ → Option Mark
 number_more None w = Some (record { worker = w; mask = 0 })
 number_more (Some mark) w = Some (record mark { mask = worker_more mark.mask w })
 
--- what the numbers of a text make of a mark; each ends at a space or a line feed, and n is so much
--- of the first as was read
+-- the mark that the numbers of a text make; each ends at a space or a line feed, and n is the part
+-- of the first that was read
 abbrev pub numbers_from : ℕ → Option Mark → List ℕ → Option Mark
 numbers_from n mark [] = mark
 numbers_from n mark (byte ∷ bytes) =
     if byte == 32 || byte == 10 then numbers_from 0 (number_more mark n) bytes
     else numbers_from (digit_more n byte) mark bytes
 
--- a worker below `MOST_WORKERS`, where the line is spelled as the mark is printed
+-- a worker below `MOST_WORKERS`, if the line is spelled as the mark is printed
 abbrev pub if_spelled : List ℕ → Option Mark → Option Mark
 if_spelled line None = None
 if_spelled line (Some mark) =
     if nat_lt mark.worker MOST_WORKERS && bytes_eq (mark_line mark) line then Some mark else None
 
 -- The mark that a line spells: that of its numbers, if the mark is printed as this line. So the
--- numbers are canonical decimals below `MOST_WORKERS`, those of the mask rise, single spaces stand
--- between them, and a line feed at the end.
+-- numbers are canonical decimals below `MOST_WORKERS`, those of the mask rise, single spaces are
+-- between them, and a line feed is at the end.
 abbrev pub mark_of_line : List ℕ → Option Mark
 mark_of_line line = if_spelled line (numbers_from 0 None line)
 
@@ -110,7 +110,7 @@ judged_end conf scripts output k marks p =
     (worker_texts 0 (texts_of conf scripts p.replies) ++ journal_lines marks))
     else Event k
 
--- the play of one line more, if it is a mark that can be played
+-- the play after one more line, if it is a mark that can be played
 abbrev pub played_line : Conf → List (List Step) → Play → Option Mark → Option Play
 played_line conf scripts p mark = option_and_then (marked conf scripts p) mark
 

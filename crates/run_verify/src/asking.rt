@@ -1,4 +1,4 @@
-//! What a call asks next.
+//! What a call requests next.
 
 ghost use Rattle.std.specs.Prelude.{◌≡◌, ◌≤◌, [], ◌∷◌, drop};
 ghost use Rattle.std.specs.Prelude.{option_map, IfOk, IfSome};
@@ -17,10 +17,10 @@ use script_read::Call;
 use std::alloc::{AllocError, Global};
 use std::marker::Model;
 
-/// What a call asks.
+/// A request of a call.
 #[derive(Drop)]
 pub(crate) enum Query<'a> {
-    /// With keys and values out of the script.
+    /// With keys and values from the script.
     Lent(Ask<'a>),
     /// With a key that was made for it.
     Made(Request),
@@ -68,7 +68,8 @@ fn pair_at(pairs: &Pairs, k: usize) -> Option<(&Bytes, &Graph)>
     }
 }
 
-// What a call asks after `k` replies; a walk goes on from the slot `from`. None where it is done.
+// What a call requests after `k` replies; a walk continues from the slot `from`. None if it is
+// done.
 pub(crate) fn query_of<'a>(
     alloc: Global,
     call: &'a Call,
@@ -94,7 +95,7 @@ pub(crate) fn query_of<'a>(
     }
 }
 
-// Whether a call asks something after `k` replies; a walk goes on from the slot `from`.
+// Whether a call makes a request after `k` replies; a walk continues from the slot `from`.
 pub(crate) fn asks(call: &Call, conf: &Conf, k: usize, from: u32) -> bool
     requires { HasRanges call.now }
     ensures { result ≡ is_asking (next_from conf.now.slots (asking_of call.now) k from []) }
@@ -105,7 +106,7 @@ pub(crate) fn asks(call: &Call, conf: &Conf, k: usize, from: u32) -> bool
     ask_of(call, conf, k, from).is_some()
 }
 
-// What a call that is on no pool asks.
+// What a call that is on no pool requests.
 fn ask_of<'a>(call: &'a Call, conf: &Conf, k: usize, from: u32) -> Option<Ask<'a>>
     requires ranges { HasRanges call.now }
     requires lent { IsLent call.now }
@@ -230,7 +231,7 @@ fn ask_of<'a>(call: &'a Call, conf: &Conf, k: usize, from: u32) -> Option<Ask<'a
     }
 }
 
-// The slot up to which a step went.
+// The slot at which a step ended.
 fn step_end(slots: u32, reply: &Reply) -> u32
     ensures { result ≡ step_end slots reply.now }
 {
@@ -249,7 +250,7 @@ fn step_end(slots: u32, reply: &Reply) -> u32
     }
 }
 
-// The slot from which a walk goes on after a reply.
+// The slot from which a walk continues after a reply.
 pub(crate) fn slot_after(slots: u32, from: u32, reply: &Reply) -> u32
     ensures { result ≡ slot_after slots from reply.now }
 {

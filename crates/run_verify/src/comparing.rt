@@ -1,4 +1,4 @@
-//! Comparing an output with what it should be, piece by piece.
+//! Comparing an output with the expected one, piece by piece.
 
 ghost use Rattle.std.specs.Prelude.{◌≡◌, ◌≤◌, ◌++◌, length, drop, IfOk, IfErr};
 ghost use Rattle.reply_text.specs.Output.{worker_texts};
@@ -8,7 +8,7 @@ ghost use Rattle.run_verify.specs.Verdicts.{first_difference};
 use itoa::Buffer;
 use notation::ByteOut;
 
-// Whether the piece stands in the output from `at` on: its end, or the first place that differs.
+// Whether the piece is in the output at `at`: its end, or the first place that differs.
 pub(crate) fn match_piece(output: &[u8], at: usize, piece: &[u8]) -> Result<usize, usize>
     requires { at ≤ length output.now }
     ensures has { IfOk result (λ to. HasPiece output.now at piece.now to) }
@@ -23,7 +23,7 @@ pub(crate) fn match_piece(output: &[u8], at: usize, piece: &[u8]) -> Result<usiz
     Ok(at + piece.len())
 }
 
-// Whether two pieces stand there, one behind the other.
+// Whether two pieces are there, one after the other.
 pub(crate) fn match_both(
     output: &[u8],
     at: usize,
@@ -41,7 +41,7 @@ pub(crate) fn match_both(
     }
 }
 
-// Whether the line and the text of a worker stand there.
+// Whether the line and the text of a worker are there.
 fn match_worker(output: &[u8], at: usize, worker: usize, text: &[u8]) -> Result<usize, usize>
     requires { at ≤ length output.now }
     ensures has { IfOk result (λ to. HasPiece output.now at (worker_text worker text.now) to) }
@@ -55,7 +55,7 @@ fn match_worker(output: &[u8], at: usize, worker: usize, text: &[u8]) -> Result<
     }
 }
 
-// Whether the lines and texts of all workers stand at the output's beginning.
+// Whether the lines and texts of all workers are at the output's beginning.
 fn match_workers(output: &[u8], texts: &[ByteOut]) -> Result<usize, usize>
     ensures has { IfOk result (λ to. HasPiece output.now 0 (worker_texts 0 texts.now) to) }
     ensures differs { IfErr result (λ place.
@@ -71,9 +71,9 @@ fn match_workers(output: &[u8], texts: &[ByteOut]) -> Result<usize, usize>
     Ok(at)
 }
 
-/// The first place at which an output differs from what these workers' texts make it, with its own
-/// end, from `part` on, behind them. Where one of the two ends before the other, its end is such a
-/// place. It takes no memory.
+/// The first place at which an output differs from the one that these workers' texts make, followed
+/// by its own end, from `part` on. If one of the two is shorter, its end is such a place. It takes
+/// no memory.
 pub fn difference(output: &[u8], texts: &[ByteOut], part: usize) -> Option<usize>
     requires { part ≤ length output.now }
     ensures { result ≡ first_difference output.now

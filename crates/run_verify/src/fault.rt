@@ -10,7 +10,7 @@ use std::alloc::AllocError;
 pub enum VerifyFault {
     /// There was not enough memory.
     Memory,
-    /// A search is for what is no pattern, or its maker refused it.
+    /// The pattern of a search is invalid, or its maker refused it.
     Pattern,
 }
 

@@ -1,4 +1,4 @@
-//! The ghost of a verdict: where the marks so far have led.
+//! The ghost of a verdict: the game after the marks so far.
 
 ghost use Rattle.run_verify.specs.Games.{Game, game_begun, game_after};
 ghost use Rattle.std.specs.Prelude.{[]};
@@ -8,7 +8,7 @@ use ghost_log::{Begins, Happens, Log};
 use script_read::Scripts;
 use std::marker::Model;
 
-/// Where the marks so far have led. It exists only in proofs.
+/// The game after the marks so far. It exists only in proofs.
 pub(crate) type GameSoFar = Log<Games>;
 
 /// What contracts see as a game. No value of this type is made.
@@ -22,7 +22,7 @@ impl Model for Games {
     ghost view = { λ s. game_begun s.conf [] };
 }
 
-/// No mark was played of these scripts, as the clock sees them, on a cache of this shape.
+/// No mark of these scripts was played, as the clock sees them, on a cache of this shape.
 #[derive(Drop)]
 pub(crate) struct Unplayed<'a> {
     pub(crate) conf: &'a Conf,
@@ -36,7 +36,7 @@ impl Begins<Games> for Unplayed<'_> {
     ghost begun = { λ u. game_begun u.conf.now (all_timed u.clock.now u.scripts.now) };
 }
 
-// After one mark more, if it can be played.
+// After one more mark, if it can be played.
 impl Happens<Games> for Mark {
     ghost after = { λ mark game. game_after game mark };
 }

@@ -1,4 +1,4 @@
-//! Laws of outputs, of their lines and of how long a journal is.
+//! Laws of outputs, of their lines and of the length of a journal.
 
 ghost use Rattle.std.specs.Prelude.{◌≡◌, ℕ, ◌<◌, ◌≤◌, ◌^◌, List, length, Some};
 ghost use Rattle.apcu_model.specs.declared.conf.Conf.{Conf};
@@ -12,7 +12,7 @@ ghost use Rattle.run_verify.specs.Verdicts.{mark_of_line, verdict_of};
 ghost use Rattle.run_verify.specs.OutputLines.{IsInBits};
 ghost use Rattle.run_verify.specs.declared.verifying.Verdict.TheVariants.{Yes};
 
-/// A line spells a mark exactly where it is printed for one of a worker below `MOST_WORKERS` and a
+/// A line spells a mark exactly if it is printed for one of a worker below `MOST_WORKERS` and a
 /// mask of 64 bits, and then it spells that mark.
 pub fn lines_tell_marks()
     ensures lines { (line : List ℕ) (mark : Mark) → mark_of_line line ≡ Some mark

@@ -1,5 +1,5 @@
-//! The judge of outputs: whether the replies that stand there are those of one thread, at the
-//! places that the journal gives them.
+//! The judge of outputs: whether the replies in an output are those of the single-threaded cache,
+//! in the order that its journal gives.
 #![tactic(auto)]
 
 mod asking;

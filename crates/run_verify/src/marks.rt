@@ -56,10 +56,10 @@ fn play_wish<M: Maker>(
     Ok(true)
 }
 
-/// Plays a mark, if it can be played: its mask is legal, and its worker wants something. Where it
-/// cannot, the replay stays where it is.
+/// Plays a mark, if it can be played: its mask is legal, and its worker wants something. If it
+/// cannot, the replay is unchanged.
 ///
-/// `Pattern` comes only where a call of the scripts has a pattern that may be refused.
+/// Returns `Pattern` only if a call of the scripts has a pattern that may be refused.
 pub(crate) fn play_mark<M: Maker>(
     alloc: Global,
     maker: &M,

@@ -14,7 +14,7 @@ use row_search::{Maker, Search, SearchFault};
 use script_read::{Call, Script, Scripts};
 use std::alloc::Global;
 
-// Makes the regex of a call's pattern, if it has one, and drops it again.
+// Compiles a call's pattern, if it has one, and drops the regex.
 fn try_call<M: Maker>(alloc: Global, maker: &M, call: &Call) -> Result<(), VerifyFault>
     requires { HasRanges call.now }
     ensures readable { OnOk result (IsReadable (call_pattern call.now)) }
@@ -43,8 +43,8 @@ fn try_script<M: Maker>(alloc: Global, maker: &M, script: &Script) -> Result<(),
     Ok(())
 }
 
-// Makes the regex of each pattern of all scripts once. A pattern that is none, or that is refused,
-// so comes to light whatever the output is.
+// Compiles each pattern of all scripts once. So an invalid or a refused pattern is found whatever
+// the output is.
 pub(crate) fn try_patterns<M: Maker>(
     alloc: Global,
     maker: &M,
@@ -61,7 +61,7 @@ pub(crate) fn try_patterns<M: Maker>(
 }
 
 // The search of a call, for each step that it makes. A call without a pattern has one for all keys,
-// and takes no memory for it.
+// which takes no memory.
 fn search_of<M: Maker>(alloc: Global, maker: &M, call: &Call) -> Result<Search, VerifyFault>
     requires { HasRanges call.now }
     ensures made { IfOk result (λ search. search ≡ call_pattern call.now) }
@@ -76,7 +76,7 @@ fn search_of<M: Maker>(alloc: Global, maker: &M, call: &Call) -> Result<Search, 
     }
 }
 
-// Makes the search for the call that the seat is at, where it has asked nothing yet.
+// Makes the search for the call that the seat is at, if it has made no request yet.
 pub(crate) fn search_for<M: Maker>(
     alloc: Global,
     maker: &M,

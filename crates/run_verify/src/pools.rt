@@ -1,4 +1,4 @@
-//! What a call on a pool asks next.
+//! What a call on a pool requests next.
 
 ghost use Rattle.std.specs.Prelude.{◌≡◌, if◌then◌else◌, nat_lt, [], Some, None, IfOk, IfSome};
 ghost use Rattle.simple_pool.specs.Requests.{IsGoodCall, ask_pattern, pool_asking};
@@ -10,8 +10,8 @@ use apcu_model::{Conf, Request};
 use simple_pool::{PoolAsk, PoolCall, request};
 use std::alloc::{AllocError, Global};
 
-// The number of the next event after `k` replies, or where the pool is cleared the slot; None where
-// the call is done.
+// The number of the next event after `k` replies or, if the pool is being cleared, the slot; None
+// if the call is done.
 fn next_event(call: &PoolCall, slots: u32, k: usize, from: u32) -> Option<u32>
     ensures { IsNextEvent call.now
         (next_from slots (asking_in (pool_asking call.now.pool call.now.ask)) k from []) result }
@@ -39,7 +39,7 @@ fn below(k: usize, count: u32) -> Option<u32>
     }
 }
 
-/// Whether the call asks something after `k` replies; clearing goes on from the slot `from`.
+/// Whether the call makes a request after `k` replies; clearing continues from the slot `from`.
 pub(crate) fn pool_asks(call: &PoolCall, slots: u32, k: usize, from: u32) -> bool
     ensures { result ≡ is_asking
         (next_from slots (asking_in (pool_asking call.now.pool call.now.ask)) k from []) }
@@ -47,7 +47,7 @@ pub(crate) fn pool_asks(call: &PoolCall, slots: u32, k: usize, from: u32) -> boo
     next_event(call, slots, k, from).is_some()
 }
 
-/// What the call asks after `k` replies; clearing goes on from the slot `from`. None where it is
+/// What the call requests after `k` replies; clearing continues from the slot `from`. None if it is
 /// done.
 pub(crate) fn pool_request(
     alloc: Global,

@@ -1,5 +1,4 @@
-//! Reading the journal part of an output: where it begins, its lines, and the marks that they
-//! spell.
+//! Reading the journal part of an output: its begin, its lines, and the marks that they spell.
 
 ghost use Rattle.std.specs.Prelude.{◌≡◌, ℕ, ◌+◌, ◌-◌, ◌<◌, ◌≤◌, ◌&&◌, ◌++◌, ◌∷◌, length, take};
 ghost use Rattle.std.specs.Prelude.{drop, codes, None, IfSome, IfOk, IfErr, IsTrue};
@@ -34,8 +33,8 @@ fn begins_journal(output: &[u8], at: usize) -> bool
     begins_line(output, at) && output[at..].starts_with(b"journal\n")
 }
 
-/// Where the journal part of an output begins: behind its last line `journal`, if it has one. The
-/// output is gone over once, from its end.
+/// The place at which the journal part of an output begins: after its last line `journal`, if there
+/// is one. The output is read once, from its end.
 pub fn journal_at(output: &[u8]) -> Option<usize>
     ensures part { option_map (λ p. drop p output.now) result ≡ journal_part output.now }
     ensures within { IfSome result (λ p. p ≤ length output.now) }
@@ -50,7 +49,7 @@ pub fn journal_at(output: &[u8]) -> Option<usize>
     None
 }
 
-/// Where the line ends that begins at this place, with its line feed; the last one may lack it.
+/// The end of the line that begins at this place, after its line feed; the last one may lack it.
 pub fn line_end(output: &[u8], at: usize) -> usize
     requires { at < length output.now }
     ensures past { at < result }
@@ -68,7 +67,7 @@ pub fn line_end(output: &[u8], at: usize) -> usize
     end
 }
 
-// A number with a digit more behind it.
+// A number with one more digit.
 fn digit_more(n: u32, byte: u8) -> u32
     requires { n ≤ MOST_WORKERS }
     ensures { result ≡ digit_more n byte }
@@ -76,7 +75,7 @@ fn digit_more(n: u32, byte: u8) -> u32
     (n * 10 + u32::from(byte.saturating_sub(48))).min(MOST_WORKERS)
 }
 
-// A mask with a worker more, if he is above those in it.
+// A mask with one more worker, if it is above those in the mask.
 fn worker_more(mask: u64, worker: u32) -> u64
     ensures { result ≡ worker_more mask worker }
 {
@@ -87,7 +86,7 @@ fn worker_more(mask: u64, worker: u32) -> u64
     }
 }
 
-// A number more of a line.
+// A mark with one more number of its line.
 fn number_more(mark: Option<Mark>, n: u32) -> Mark
     ensures { Some result ≡ number_more mark n }
 {
@@ -100,7 +99,7 @@ fn number_more(mark: Option<Mark>, n: u32) -> Mark
     }
 }
 
-// What the numbers of a line make of a mark.
+// The mark that the numbers of a line make.
 fn numbers_of(line: &[u8]) -> Option<Mark>
     ensures { result ≡ numbers_from 0 None line.now }
 {
@@ -117,13 +116,13 @@ fn numbers_of(line: &[u8]) -> Option<Mark>
     mark
 }
 
-// Whether the workers of a mask stand there as they are printed.
+// Whether the workers of a mask are there as they are printed.
 fn match_mask(line: &[u8], from: usize, mask: u64) -> Result<usize, usize>
     requires { from ≤ length line.now }
     ensures has { IfOk result (λ to. HasPiece line.now from (mask_text mask 64) to) }
     ensures differs { IfErr result (λ place. DiffersAt line.now from (mask_text mask 64) place) }
 {
-    // Most events meet nobody.
+    // The mask of most events is empty.
     if mask == 0 {
         return Ok(from);
     }
@@ -140,7 +139,7 @@ fn match_mask(line: &[u8], from: usize, mask: u64) -> Result<usize, usize>
     Ok(at)
 }
 
-// Whether a mark stands there as it is printed.
+// Whether a mark is there as it is printed.
 fn match_mark(line: &[u8], mark: Mark) -> Result<usize, usize>
     ensures has { IfOk result (λ to. HasPiece line.now 0 (mark_line mark) to) }
     ensures differs { IfErr result (λ place. DiffersAt line.now 0 (mark_line mark) place) }
@@ -167,8 +166,8 @@ fn is_line_of(line: &[u8], mark: Mark) -> bool
     }
 }
 
-/// The mark that a line spells, if it spells one: as a journal's line is printed, with its line
-/// feed.
+/// The mark that a line spells, if it spells one: the line is the one that a journal prints, with
+/// its line feed.
 pub fn read_mark(line: &[u8]) -> Option<Mark>
     ensures { result ≡ mark_of_line line.now }
 {

@@ -1,4 +1,4 @@
-//! Where a worker is in its script.
+//! How far a worker is in its script.
 
 ghost use Rattle.std.specs.Prelude.{◌≡◌, ◌+◌, ◌++◌, ◌<◌, ◌^◌, List, option_map, IfOk, IfSome, OnOk};
 ghost use Rattle.apcu_model.specs.Asking.{asked};
@@ -25,9 +25,9 @@ pub(crate) struct Seat {
     pub(crate) step: u32,
     /// The replies of that call; at the end, of the worker's end.
     pub(crate) replies: Replies,
-    /// The slot from which that call goes on, if it is a walk.
+    /// The slot from which that call continues, if it is a walk.
     pub(crate) from: u32,
-    /// The search for that call's pattern, once it asked something.
+    /// The search for that call's pattern, once it has made a request.
     pub(crate) search: Search,
     /// What the calls before it print.
     pub(crate) text: ByteOut,
@@ -69,7 +69,7 @@ impl Seat {
         self.step >= script.len() && !self.replies.is_empty()
     }
 
-    /// What the calls before the one that it is at print.
+    /// What the calls before the current one print.
     pub(crate) fn into_text(self) -> ByteOut
         ensures { result ≡ self.text }
     {
@@ -84,7 +84,7 @@ impl Seat {
     }
 }
 
-// Writes the line of the call that the seat is at, and goes to the next one.
+// Writes the line of the call that the seat is at, and moves to the next one.
 fn next_call(call: &Call, seat: &mut Seat) -> Result<(), AllocError>
     requires { seat.old.step + 1 < 2 ^ 32 }
     ensures { OnOk result (IsNextCall (call_text call.now seat.old.replies ++ ends_line)
@@ -98,7 +98,7 @@ fn next_call(call: &Call, seat: &mut Seat) -> Result<(), AllocError>
     Ok(())
 }
 
-// Goes past the calls that are done, and writes their lines.
+// Skips the calls that are done, and writes their lines.
 pub(crate) fn settle(conf: &Conf, script: &Script, seat: &mut Seat) -> Result<(), AllocError>
     ensures seat { OnOk result ((clock : Clock) (replies : List _)
         → IsSeat conf.now (timed clock script.now) replies seat.old
@@ -136,7 +136,7 @@ fn moment_of(t: u64, ask: &Ask<'_>) -> u64
     }
 }
 
-// What the worker of a seat wants now, and when; after its last call its end, and then nothing.
+// What the worker of a seat requests now, and when; after its last call its end, and then nothing.
 pub(crate) fn wish_of<'a>(
     alloc: Global,
     script: &'a Script,

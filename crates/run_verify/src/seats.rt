@@ -9,7 +9,7 @@ use script_read::Scripts;
 use std::alloc::{AllocError, Global};
 
 /// A seat for each worker, before its first call. They begin a game of these scripts on any cache
-/// that nothing was asked of.
+/// to which no request was made.
 pub(crate) fn seats_for(alloc: Global, scripts: &Scripts) -> Result<Vec<Seat>, AllocError>
     ensures { IfOk result (λ seats. BeginsGame scripts.now seats.items) }
 {
@@ -33,7 +33,7 @@ pub(crate) fn all_done(scripts: &Scripts, seats: &[Seat]) -> bool
     true
 }
 
-/// For each worker the lines of its calls, where all have ended.
+/// For each worker the lines of its calls, if all have ended.
 pub(crate) fn into_texts(alloc: Global, seats: Vec<Seat>) -> Result<Vec<ByteOut>, AllocError>
     ensures { IfOk result (λ texts. TellsAll seats.items texts.items) }
 {

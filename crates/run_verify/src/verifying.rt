@@ -27,22 +27,22 @@ use script_read::{Scripts, event_count};
 use std::alloc::Global;
 use std::marker::Model;
 
-/// What an output is, beside the scripts that it is said to come from.
+/// Whether an output is one of given scripts.
 #[derive(Clone, Copy, Debug, PartialEq, Eq)]
 pub enum Verdict {
     /// It is the output of a legal journal that plays the scripts to their ends.
     Yes,
     /// It has no line `journal`.
     NoJournal,
-    /// This line of its journal, counted from 0, is no event that can come there; or the journal
+    /// This line of its journal, counted from 0, is no event that can come next; or the journal
     /// ends there, before all workers have ended.
     Event(u32),
-    /// It first differs at this place from the output of its own journal. Where one of them ends
-    /// before the other, its end is such a place.
+    /// It first differs at this place from the output of its own journal. If one of them is
+    /// shorter, its end is such a place.
     Byte(u64),
 }
 
-// What a comparison tells.
+// The verdict of a comparison.
 fn compared(output: &[u8], texts: &[ByteOut], part: usize) -> Verdict
     requires { part ≤ length output.now }
     ensures { result ≡ byte_verdict (first_difference output.now
@@ -119,13 +119,11 @@ fn judge<M: Maker>(
     Ok(compared(output, texts.as_slice(), part - 8))
 }
 
-/// What an output is, beside the scripts that it is said to come from, for a cache of this shape
-/// and this clock. It is gone over once. Its journal is played by one thread, and its events are
-/// no more than those of the scripts.
+/// Whether an output is one of these scripts, for a cache of this shape and this clock. It is read
+/// once. Its journal is played by one thread, and its events are no more than those of the scripts.
 ///
-/// The regex of each pattern is made before the output is looked at, so there is a verdict only
-/// where each of them is a pattern. `Pattern` comes only where a call of the scripts has one that
-/// may be refused.
+/// Each pattern is compiled before the output is read, so there is a verdict only if each of them
+/// is valid. Returns `Pattern` only if a call of the scripts has one that may be refused.
 pub fn verify<M: Maker>(
     alloc: Global,
     maker: &M,
