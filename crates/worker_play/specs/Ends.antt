@@ -14,13 +14,13 @@ use Rattle.worker_play.specs.declared.script.Lines.{Lines}
 use Rattle.worker_play.specs.Goes.{wish, KnowsOwnEvents, left_of}
 use Rattle.worker_play.specs.Turns.{turns_of, wanted_in}
 
--- It asked all that its script wants, its end included.
+-- It made all requests of its script, its end included.
 abbrev pub PlaysAll : Conf → List Step → PassView → Type 0
 PlaysAll conf script b =
     HasPlayed conf script (map wish_in b.known.own)
     (own_replies conf b.known.worker b.known.seen)
 
--- So it did, and the text is what is left of a line for each call, made of the worker's own replies
+-- The same, and the text is what is left of a line for each call, made of the worker's own replies
 -- in what it has seen.
 pub record PlaysOut (conf : Conf) (lines : Lines) (script : List Step) (b : PassView)
     (text : List ℕ) : Type 0 where
@@ -28,7 +28,7 @@ pub record PlaysOut (conf : Conf) (lines : Lines) (script : List Step) (b : Pass
   pub is : text
       ≡ left_of lines (script_lines conf script (own_replies conf b.known.worker b.known.seen))
 
--- It asked some first of what the calls of its script want, in turn, and then its end.
+-- It made the first of the requests of its script's calls, in turn, and then its end.
 pub record AskedInTurn (conf : Conf) (script : List Step) (b : PassView) : Type 0 where
   pub made : List Wish
   pub replies : List Reply
@@ -42,7 +42,7 @@ pub record HasEnded (t : TableId) (w : ℕ) (b : PassView) : Type 0 where
   pub worker : b.known.worker ≡ w
   pub all_own : KnowsOwnEvents b
 
--- It has, and where there is a text, it has played all of its script.
+-- It has ended, and if there is a text, it has played all of its script.
 pub record Ends (t : TableId) (conf : Conf) (w : ℕ) (lines : Lines) (script : List Step)
     (b : PassView) (text : Option (List ℕ)) : Type 0 where
   pub ended : HasEnded t w b
@@ -51,7 +51,7 @@ pub record Ends (t : TableId) (conf : Conf) (w : ℕ) (lines : Lines) (script : 
 
 -- ---- before its end
 
--- The worker asked in turn what its script wants. After its replies the script wants what one
+-- The worker made its script's requests in turn. After its replies the script wants what one
 -- without calls does: its end, and then nothing.
 pub record HasMade (conf : Conf) (script : List Step) (b : PassView) : Type 0 where
   pub in_turn : AreInTurn (wanted conf script) (map wish_in b.known.own)

@@ -1,4 +1,4 @@
--- A pass after some events of its worker, and what is told of their replies.
+-- A pass after some events of its worker, and what its call prints of their replies.
 use Rattle.std.specs.Prelude.{◌≡◌, ℕ, ◌+◌, true, List, [], ◌++◌, length, map}
 use mathlib.Core.List.{IsPrefix}
 use Rattle.apcu_model.specs.declared.conf.Conf.{Conf}
@@ -21,9 +21,9 @@ wish t r = record { request = r; t = t }
 abbrev pub KnowsOwnEvents : PassView → Type 0
 KnowsOwnEvents p = events_of p.known.worker p.known.seen ≡ p.known.own
 
--- The pass q is p after these wishes more of its worker, each of which was one event, with these
--- replies: those of one thread at the events' places in what q has seen. Besides, q has seen what
--- others did; where what p had seen was legal, all of it is.
+-- The pass q is p after these further requests of its worker, each of which was one event, with
+-- these replies: those of the single-threaded cache at the events' places in what q has seen. Also,
+-- q has seen what others did; if what p had seen was legal, all of it is.
 pub record GoesOn (conf : Conf) (workers : ℕ) (p q : PassView) (wishes : List Wish)
     (replies : List Reply) : Type 0 where
   pub table : q.table ≡ p.table
@@ -38,7 +38,7 @@ pub record GoesOn (conf : Conf) (workers : ℕ) (p q : PassView) (wishes : List 
   pub legal : all_legal workers (start_of conf) p.known.seen ≡ true
       → all_legal workers (start_of conf) q.known.seen ≡ true
 
--- Some first of what is wanted in these turns was asked.
+-- The first of the requests of these turns were made.
 pub record Reaches (conf : Conf) (workers : ℕ) (p q : PassView) (turns : List Reply → Turn)
     : Type 0 where
   pub made : List Wish
@@ -46,7 +46,7 @@ pub record Reaches (conf : Conf) (workers : ℕ) (p q : PassView) (turns : List 
   pub in_turn : AreInTurn (wanted_in turns) made replies
   pub goes : GoesOn conf workers p q made replies
 
--- All that is wanted in these turns was asked, and what is told of the replies is this.
+-- All requests of these turns were made, and this is the result of their replies.
 pub record Tells {A : Type 0} (conf : Conf) (workers : ℕ) (p q : PassView)
     (turns : List Reply → Turn) (told : List Reply → A) (a : A) : Type 0 where
   pub asked : Reaches conf workers p q turns

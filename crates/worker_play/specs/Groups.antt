@@ -4,7 +4,7 @@ use Rattle.script_read.specs.declared.call.Call.TheVariants.{StoreOne, ExistsOne
 use Rattle.script_read.specs.declared.call.Call.TheVariants.{KeyInfo, CacheInfo, SmaInfo, Walk}
 use Rattle.script_read.specs.declared.call.Call.TheVariants.{WalkDelete, Totals, Pool}
 
--- of one key, and answered by whether it was done
+-- of one key, whose result is whether it was done
 abbrev pub IsFlagged : Call → Type 0
 IsFlagged (StoreOne key value ttl exclusive) = Unit {0}
 IsFlagged (ExistsOne key) = Unit {0}
@@ -12,7 +12,7 @@ IsFlagged (DeleteOne key) = Unit {0}
 IsFlagged (Cas key expect set) = Unit {0}
 IsFlagged _ = ⊥
 
--- answered by what is noted of a key, of the cache or of its segment
+-- whose result is information about a key, the cache or its segment
 abbrev pub IsInforming : Call → Type 0
 IsInforming (KeyInfo key) = Unit {0}
 IsInforming (CacheInfo limited) = Unit {0}

@@ -12,7 +12,7 @@ use Rattle.reply_text.specs.Replies.{is_done}
 use Rattle.worker_play.specs.declared.answers.Answer.{Answer}
 use Rattle.worker_play.specs.declared.answers.Answer.TheVariants.{Found, Default}
 
--- under which key of the cache a pool keeps the key of a call on one key
+-- the key of the cache under which a pool keeps the key of a call on one key
 abbrev pub key_in_cache : List ℕ → PoolAsk → Option (List ℕ)
 key_in_cache pool (Get key default) = Some (pool_key pool key)
 key_in_cache pool (Set key value ttl) = Some (pool_key pool key)
@@ -23,11 +23,11 @@ key_in_cache pool _ = None
 
 -- ---- sets
 
--- for how many seconds a value is kept, for ever at 0; none where it is not kept
+-- the seconds for which a value is kept, 0 for no limit; none if it is not kept
 abbrev pub life_of : ℤ → Option ℕ
 life_of ttl = if int_lt (pos 0) ttl then Some (nat_abs ttl) else None
 
--- what a set asks of the cache for a key of the cache
+-- the request of a set for a key of the cache
 abbrev pub put_as : List ℕ → List Kind → Option ℕ → Request
 put_as key value (Some ttl) = requests.Store key value ttl false
 put_as key value None = requests.Delete key

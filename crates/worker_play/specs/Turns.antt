@@ -7,7 +7,7 @@ use Rattle.script_read.specs.declared.script.Step.{Step}
 use Rattle.script_read.specs.Play.{Wish, wish_at, Next, Asks, Leaves, asks_each, asks_steps}
 use Rattle.script_read.specs.Play.{next_of}
 
--- Something is wanted; or the turn is over, and these replies belong to others.
+-- Something is wanted; or the turn has ended, and these replies belong to others.
 pub data Turn : Type 0 where
   Takes : Wish → Turn
   Over : List Reply → Turn
@@ -25,11 +25,11 @@ turns_at t next replies = turn_at t (next replies)
 abbrev pub asks_at : ℕ → List Request → List Reply → Turn
 asks_at t requests = turns_at t (asks_each requests)
 
--- those of these steps over so many slots, from this slot on
+-- those of these steps over this number of slots, from this slot on
 abbrev pub steps_at : ℕ → ℕ → (ℕ → Request) → ℕ → List Reply → Turn
 steps_at t slots ask from = turns_at t (asks_steps slots ask from)
 
--- the turn of some calls, and once it is over that of the calls after them
+-- the turn of some calls, and after it that of the calls after them
 abbrev pub then_turns : (List Reply → Turn) → Turn → Turn
 then_turns later (Takes wish) = Takes wish
 then_turns later (Over others) = later others

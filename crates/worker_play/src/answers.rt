@@ -1,4 +1,4 @@
-//! What calls on pools answer for keys: what was found, or the call's default.
+//! Results of calls on pools for their keys: what was found, or the call's default.
 
 ghost use Rattle.std.specs.Prelude.{◌≡◌, IfOk, OnOk};
 ghost use Rattle.apcu_model.specs.declared.request.Reply.{Reply};
@@ -10,7 +10,7 @@ use php_graph::{Bytes, Graph};
 use reply_text::{Notes, Value};
 use std::alloc::AllocError;
 
-// An answer for a key. The default is lent, since many keys may have it.
+// A result for a key. The default is borrowed, since many keys may have it.
 #[derive(Drop)]
 pub(crate) enum Answer<'a> {
     Found(Graph),

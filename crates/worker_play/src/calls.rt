@@ -1,5 +1,5 @@
-//! The calls of a script: for each the events that it asks, in order, and what it prints for their
-//! replies. Where memory is missing only some first of the events were made.
+//! The calls of a script: for each the events that it makes, in order, and what it prints for their
+//! replies. If memory runs out, only the first of the events were made.
 
 ghost use Rattle.std.specs.Prelude.{◌≡◌, ◌≤◌, ◌<◌, ◌^◌, ◌++◌, [], length, map, codes, OnOk};
 ghost use Rattle.apcu_model.specs.declared.request.Request.TheVariants.{Store, Fetch, Exists};
@@ -38,7 +38,7 @@ use script_read::Call;
 use std::alloc::AllocError;
 use std::sync::Wait;
 
-// Plays a call that needs no search, and prints what it answers.
+// Plays a call that needs no search, and prints its result.
 pub(crate) fn play_directly<N: TableName, G: Gate, R: Wait>(
     context: &Context<N, G, R>,
     when: When,
@@ -105,7 +105,7 @@ pub(crate) fn play_directly<N: TableName, G: Gate, R: Wait>(
     }
 }
 
-// Plays a call on one key that answers whether it was done, and prints that.
+// Plays a call on one key that returns whether it was done, and prints that.
 fn play_flagged<N: TableName, G: Gate, R: Wait>(
     context: &Context<N, G, R>,
     pass: Pass,
@@ -148,7 +148,7 @@ fn play_flagged<N: TableName, G: Gate, R: Wait>(
     }
 }
 
-// Plays a call that asks what is noted of a key, of the cache or of its segment, and prints that.
+// Plays a call for information about a key, the cache or its segment, and prints that.
 #[inline(never)]
 fn play_told<N: TableName, G: Gate, R: Wait>(
     context: &Context<N, G, R>,
@@ -192,7 +192,7 @@ fn play_told<N: TableName, G: Gate, R: Wait>(
     }
 }
 
-// Plays a call of an iterator or on a pool, and prints what it answers. `search` is one for its
+// Plays a call of an iterator or on a pool, and prints its result. `search` is the one for its
 // pattern.
 pub(crate) fn play_searching<N: TableName, G: Gate, R: Wait>(
     context: &Context<N, G, R>,
@@ -241,7 +241,7 @@ pub(crate) fn play_searching<N: TableName, G: Gate, R: Wait>(
     }
 }
 
-// Stores all pairs in their order, and prints the keys that were not stored.
+// Stores all pairs in order, and prints the keys that were not stored.
 #[inline(never)]
 fn store_all<N: TableName, G: Gate, R: Wait>(
     context: &Context<N, G, R>,
@@ -273,8 +273,7 @@ fn store_all<N: TableName, G: Gate, R: Wait>(
     (held, write_each(out, &refused, b"i:-1;"))
 }
 
-// Fetches all keys in their order, each value before the next key, and prints those that were
-// found.
+// Fetches all keys in order, each value before the next key, and prints those that were found.
 #[inline(never)]
 fn fetch_all<N: TableName, G: Gate, R: Wait>(
     context: &Context<N, G, R>,
@@ -305,7 +304,7 @@ fn fetch_all<N: TableName, G: Gate, R: Wait>(
     (held, write_found(out, &values))
 }
 
-// Looks for all keys in their order, and prints those that are there.
+// Looks up all keys in order, and prints those that exist.
 #[inline(never)]
 fn look_for_all<N: TableName, G: Gate, R: Wait>(
     context: &Context<N, G, R>,
@@ -335,7 +334,7 @@ fn look_for_all<N: TableName, G: Gate, R: Wait>(
     (held, write_flags(out, there.as_slice()))
 }
 
-// Deletes all keys in their order, and prints those that were not deleted.
+// Deletes all keys in order, and prints those that were not deleted.
 #[inline(never)]
 fn delete_all<N: TableName, G: Gate, R: Wait>(
     context: &Context<N, G, R>,

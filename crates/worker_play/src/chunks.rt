@@ -1,4 +1,4 @@
-//! The events of iterators: each goes over some of the rows, those that a search finds.
+//! The events of iterators, over rows that a search finds.
 
 ghost use Rattle.std.specs.Prelude.{◌≡◌, ◌≤◌, ◌<◌, [], ◌∷◌, length, IfOk, OnErr};
 ghost use Rattle.apcu_model.specs.declared.request.Request.TheVariants as request;
@@ -15,8 +15,8 @@ use row_search::Search;
 use std::alloc::AllocError;
 use std::sync::Wait;
 
-// One step of an iterator over a list of rows, and then the gate. There was no event where memory
-// is missing.
+// One step of an iterator over a list of rows, and then the gate. Without memory there was no
+// event.
 pub(crate) fn chunk<N: TableName, G: Gate, R: Wait>(
     context: &Context<N, G, R>,
     when: When,
@@ -57,8 +57,8 @@ pub(crate) fn chunk<N: TableName, G: Gate, R: Wait>(
     (pass, made)
 }
 
-// One step of an iterator's deletion, and then the gate. Answers the slot up to which it went.
-// There was no event where memory is missing.
+// One step of an iterator's deletion, and then the gate. Returns the slot after the step. Without
+// memory there was no event.
 pub(crate) fn chunk_delete<N: TableName, G: Gate, R: Wait>(
     context: &Context<N, G, R>,
     when: When,
@@ -94,8 +94,8 @@ pub(crate) fn chunk_delete<N: TableName, G: Gate, R: Wait>(
     (pass, deleted)
 }
 
-// Of how many rows of a list the search finds the keys, how often they were fetched, and how many
-// bytes they have. There was no event where memory is missing.
+// The totals of the rows of a list whose keys the search finds: their number, their hits and their
+// bytes. Without memory there was no event.
 pub(crate) fn totals<N: TableName, G: Gate, R: Wait>(
     context: &Context<N, G, R>,
     pass: Pass,

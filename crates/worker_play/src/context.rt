@@ -7,13 +7,13 @@ use std::alloc::Global;
 /// What all calls of a worker are played with.
 #[derive(Drop)]
 pub struct Context<'a, N: TableName, G, R> {
-    /// The runtime, by which it waits for the lock.
+    /// The runtime, with which it waits for the lock.
     pub rt: &'a R,
-    /// Gives the memory for what it fetches and prints.
+    /// The allocator for what it fetches and prints.
     pub alloc: Global,
     /// The cache.
     pub shared: &'a Shared<N>,
-    /// Is told of its calls.
+    /// Called at its calls.
     pub gate: &'a G,
     /// The slots of the cache.
     pub slots: u32,

@@ -20,8 +20,8 @@ use row_search::Maker;
 use script_read::Steps;
 use std::sync::Wait;
 
-/// Plays a worker's steps as `play_lines` does, and ends the worker, whether or not it came to their
-/// end. What is left of its lines is handed out where it did.
+/// Plays a worker's steps as `play_lines` does, and ends the worker, whether or not it reached
+/// their end. If it did, returns what is left of its lines.
 ///
 /// The pass has made no event, whatever it has seen, and may make one more than all calls may.
 pub fn play_out<N: TableName, M: Maker + Sync, G: Gate, R: Wait, S: Steps + Drop>(

@@ -1,4 +1,4 @@
-//! The events of a worker, each on one key: the pass goes on by one wish and its reply.
+//! The events of a worker, each on one key: the pass advances by one request and its reply.
 
 ghost use Rattle.std.specs.Prelude.{◌≡◌, ◌≤◌, ◌<◌, ◌++◌, true, ℕ, List, [], ◌∷◌, length, IfOk};
 ghost use Rattle.std.specs.Prelude.{OnOk, OnErr};
@@ -47,7 +47,7 @@ pub(crate) fn store<N: TableName, G: Gate, R: Wait>(
         .store(context.rt, pass, key.as_slice(), value, ttl, exclusive, t)
 }
 
-// Whether a key is there.
+// Whether a key exists.
 pub(crate) fn exists<N: TableName, G: Gate, R: Wait>(
     context: &Context<N, G, R>,
     pass: Pass,
@@ -79,7 +79,7 @@ pub(crate) fn delete<N: TableName, G: Gate, R: Wait>(
     context.shared.delete(context.rt, pass, key.as_slice(), t)
 }
 
-// The number that the counter of a key comes to, if it counts.
+// The counter's new value, if it counts.
 pub(crate) fn inc<N: TableName, G: Gate, R: Wait>(
     context: &Context<N, G, R>,
     pass: Pass,
@@ -99,7 +99,7 @@ pub(crate) fn inc<N: TableName, G: Gate, R: Wait>(
         .inc(context.rt, pass, key.as_slice(), step, ttl, t)
 }
 
-// Whether the expected integer was there, and another one is set.
+// Whether the expected integer was found, and replaced.
 pub(crate) fn cas<N: TableName, G: Gate, R: Wait>(
     context: &Context<N, G, R>,
     pass: Pass,
@@ -119,7 +119,7 @@ pub(crate) fn cas<N: TableName, G: Gate, R: Wait>(
         .cas(context.rt, pass, key.as_slice(), expect, set, t)
 }
 
-// The value that a generator gives. There was no event where memory is missing.
+// The value of a generator. Without memory there was no event.
 pub(crate) fn entry<N: TableName, G: Gate, R: Wait>(
     context: &Context<N, G, R>,
     pass: Pass,
@@ -144,7 +144,7 @@ pub(crate) fn entry<N: TableName, G: Gate, R: Wait>(
     }
 }
 
-// What is noted of a key's row, if a look-up finds one. There was no event where memory is missing.
+// Information about a key's row, if a look-up finds one. Without memory there was no event.
 pub(crate) fn key_info<N: TableName, G: Gate, R: Wait>(
     context: &Context<N, G, R>,
     pass: Pass,
@@ -163,7 +163,7 @@ pub(crate) fn key_info<N: TableName, G: Gate, R: Wait>(
         .key_info(context.rt, context.alloc, pass, key.as_slice(), t)
 }
 
-// What the cache tells of itself. There was no event where memory is missing.
+// Information about the cache. Without memory there was no event.
 pub(crate) fn cache_info<N: TableName, G: Gate, R: Wait>(
     context: &Context<N, G, R>,
     pass: Pass,
@@ -181,7 +181,7 @@ pub(crate) fn cache_info<N: TableName, G: Gate, R: Wait>(
         .cache_info(context.rt, context.alloc, pass, limited)
 }
 
-// What the segment tells of its room. There was no event where memory is missing.
+// Information about the segment's free words. Without memory there was no event.
 pub(crate) fn sma_info<N: TableName, G: Gate, R: Wait>(
     context: &Context<N, G, R>,
     pass: Pass,
@@ -214,8 +214,8 @@ pub(crate) fn clear<N: TableName, G: Gate, R: Wait>(
     context.shared.clear(context.rt, pass, t)
 }
 
-// The value of a key, which is copied without the lock. The fetch stands where memory is missing
-// for the copy.
+// The value of a key, which is copied without the lock. Without memory for the copy, the fetch
+// still counts.
 pub(crate) fn fetch<N: TableName, G: Gate, R: Wait>(
     context: &Context<N, G, R>,
     when: When,
@@ -244,7 +244,7 @@ pub(crate) fn fetch<N: TableName, G: Gate, R: Wait>(
     }
 }
 
-// What was found, where a copy has its value.
+// What was found, if a copy has its value.
 fn some_of(value: Result<Graph, AllocError>) -> Result<Option<Graph>, AllocError>
     ensures { (g : List Kind) → IfOk value (λ v. v ≡ g)
         → IfOk result (λ found. fetched found ≡ Found g) }
@@ -252,8 +252,8 @@ fn some_of(value: Result<Graph, AllocError>) -> Result<Option<Graph>, AllocError
     Ok(Some(value?))
 }
 
-// The value of a key, printed as it is copied without the lock, and that it was there, or that it
-// was not. The fetch stands where memory is missing for the text.
+// The value of a key, printed as it is copied without the lock, and that it was found, or that it
+// was not. Without memory for the text, the fetch still counts.
 pub(crate) fn fetch_text<N: TableName, G: Gate, R: Wait>(
     context: &Context<N, G, R>,
     when: When,
@@ -281,7 +281,7 @@ pub(crate) fn fetch_text<N: TableName, G: Gate, R: Wait>(
     }
 }
 
-// Behind a value's text, that it was there.
+// After a value's text, that it was found.
 fn write_there(out: &mut ByteOut, copied: Result<(), AllocError>) -> Result<(), AllocError>
     ensures { (g : List Kind) (before : List ℕ) → OnOk copied (out.old ≡ before ++ text_of g)
         → OnOk result (out.new ≡ before ++ fetched_one (Found g)) }

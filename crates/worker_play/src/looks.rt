@@ -1,4 +1,4 @@
-//! A worker that looks at the counters of generated scripts, and then ends.
+//! A worker that reads the counters of generated scripts, and then ends.
 
 ghost use Rattle.std.specs.Prelude.{◌≡◌, ◌<◌, ◌≤◌, [], ◌∷◌, Some, length};
 ghost use Rattle.apcu_model.specs.declared.request.Request.TheVariants as requests;
@@ -17,7 +17,7 @@ use shared_cache::{Pinned, Shared};
 use std::alloc::Global;
 use std::sync::Wait;
 
-// The integer that is answered at once, or 0.
+// The integer that is returned at once, or 0.
 fn number_of(scalar: Scalar) -> i64
     ensures { result ≡ first_number (scalar_graph scalar) }
 {
@@ -27,8 +27,8 @@ fn number_of(scalar: Scalar) -> i64
     }
 }
 
-// A look at one of the eight counters: the integer that is found, or 0. What is copied is none, so
-// want of memory for the copy is no fault.
+// Fetches one of the eight counters: the integer that is found, or 0. What is copied is no integer,
+// so if there is no memory for the copy, that is no fault.
 pub(crate) fn look_at<N: TableName, R: Wait>(
     rt: &R,
     alloc: Global,
@@ -57,10 +57,10 @@ pub(crate) fn look_at<N: TableName, R: Wait>(
 }
 
 /// Has a worker fetch the counters `c0` to `c7` in order, all at the moment 0, and then ends it.
-/// What it found are the numbers: of each counter its integer, or 0 where there is none.
+/// Returns what it found: of each counter its integer, or 0 if there is none.
 ///
-/// The pass may make nine events more. It takes memory only where something else than an integer
-/// stands under a counter's key, and that counts as 0 also where there is none.
+/// The pass must have nine more events left. Memory is taken only if something other than an
+/// integer is stored under a counter's key; that counts as 0, also if there is no memory.
 pub fn observe<N: TableName, R: Wait>(
     rt: &R,
     alloc: Global,

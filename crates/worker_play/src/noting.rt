@@ -28,7 +28,7 @@ pub(crate) fn note_undone<'a>(
     Ok(())
 }
 
-// Notes a key that is there.
+// Notes a key that exists.
 pub(crate) fn note_there<'a>(
     there: &mut Notes<'a, ()>,
     key: &'a Bytes,

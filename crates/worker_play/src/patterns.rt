@@ -11,7 +11,7 @@ use script_read::Call;
 use std::alloc::Global;
 
 // The search of a call, for each step that it makes. A call without a pattern has one for all keys,
-// and takes no memory for it.
+// which takes no memory.
 pub(crate) fn search_of<M: Maker>(
     alloc: Global,
     maker: &M,

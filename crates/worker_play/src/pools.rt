@@ -1,4 +1,4 @@
-//! The calls on pools: for each the events that it asks, and what it prints for their replies.
+//! The calls on pools: for each the events that it makes, and what it prints for their replies.
 
 ghost use Rattle.std.specs.Prelude.{◌≡◌, ◌≤◌, ◌<◌, ◌^◌, ◌++◌, ◌&&◌, true, [], ◌∷◌, Some, None};
 ghost use Rattle.std.specs.Prelude.{length, map, IfOk, OnOk};
@@ -31,7 +31,7 @@ use simple_pool::{POOL_STEP, PoolAsk, PoolCall, pool_key};
 use std::alloc::{AllocError, Global};
 use std::sync::Wait;
 
-// Plays a call on a pool, and prints what it answers. `search` is one for its pattern.
+// Plays a call on a pool, and prints its result. `search` is the one for its pattern.
 #[inline(never)]
 pub(crate) fn play_pool<N: TableName, G: Gate, R: Wait>(
     context: &Context<N, G, R>,
@@ -60,7 +60,7 @@ pub(crate) fn play_pool<N: TableName, G: Gate, R: Wait>(
     }
 }
 
-// Under which key of the cache the pool keeps the key of a call on one key.
+// The key of the cache under which the pool keeps the key of a call on one key.
 fn key_in_cache(alloc: Global, call: &PoolCall) -> Result<Option<Bytes>, AllocError>
     requires { IsGoodCall call.now }
     ensures { IfOk result (λ own. own ≡ key_in_cache call.now.pool call.now.ask) }
@@ -125,7 +125,7 @@ fn play_on_key<N: TableName, G: Gate, R: Wait>(
     }
 }
 
-// Plays a call on several keys, or on all of the pool. `search` is one for its pattern.
+// Plays a call on several keys, or on all of the pool. `search` is the one for its pattern.
 fn play_on_keys<N: TableName, G: Gate, R: Wait>(
     context: &Context<N, G, R>,
     when: When,
@@ -167,7 +167,7 @@ fn play_on_keys<N: TableName, G: Gate, R: Wait>(
     }
 }
 
-// For how many seconds a value is kept, for ever at 0; none where it is not kept.
+// The seconds for which a value is kept, 0 for no limit; none if it is not kept.
 fn life_of(ttl: i64) -> Option<u32>
     requires { is_good_ttl ttl ≡ true }
     ensures { result ≡ life_of ttl }
@@ -175,8 +175,8 @@ fn life_of(ttl: i64) -> Option<u32>
     if 0 < ttl { Some(ttl as u32) } else { None }
 }
 
-// Keeps a value under a key of the cache, or deletes the key where it is not kept. Whether that was
-// done.
+// Stores a value under a key of the cache, or deletes the key if it is not kept. Returns whether
+// that was done.
 fn put<N: TableName, G: Gate, R: Wait>(
     context: &Context<N, G, R>,
     pass: Pass,
@@ -200,8 +200,8 @@ fn put<N: TableName, G: Gate, R: Wait>(
     }
 }
 
-// Fetches all keys of a pool in their order, each value before the next key, and prints for each
-// what was found or the default.
+// Fetches all keys of a pool in order, each value before the next key, and prints for each what was
+// found or the default.
 #[inline(never)]
 fn get_all<N: TableName, G: Gate, R: Wait>(
     context: &Context<N, G, R>,
@@ -240,7 +240,7 @@ fn get_all<N: TableName, G: Gate, R: Wait>(
     (held, write_values(out, answers.as_slice()))
 }
 
-// Sets all pairs of a pool in their order, and prints whether all was done.
+// Sets all pairs of a pool in order, and prints whether all was done.
 #[inline(never)]
 fn put_all<N: TableName, G: Gate, R: Wait>(
     context: &Context<N, G, R>,
@@ -282,7 +282,7 @@ fn both(a: bool, b: bool) -> bool
     a && b
 }
 
-// Deletes all these keys of a pool in their order, and prints that it was done.
+// Deletes all these keys of a pool in order, and prints that it was done.
 #[inline(never)]
 fn drop_all<N: TableName, G: Gate, R: Wait>(
     context: &Context<N, G, R>,

@@ -1,4 +1,4 @@
-//! A value that a fetch answers at once: its graph, and its text.
+//! A value that a fetch returns at once: its graph, and its text.
 
 ghost use Rattle.std.specs.Prelude.{◌≡◌, ◌++◌, IsTrue, IfOk, OnOk};
 ghost use Rattle.php_graph.specs.Building.{nothing_drafted, item_fits, pushed, wants_of};
@@ -36,7 +36,7 @@ pub(crate) fn graph_of_scalar(alloc: Global, scalar: Scalar) -> Result<Graph, Al
     }
 }
 
-// Appends the value's text, and that it was there.
+// Appends the value's text, and that it was found.
 pub(crate) fn write_scalar(out: &mut ByteOut, scalar: Scalar) -> Result<(), AllocError>
     ensures { OnOk result (out.new ≡ out.old ++ fetched_one (Found (scalar_graph scalar))) }
 {

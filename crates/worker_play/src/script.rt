@@ -32,7 +32,7 @@ use std::sync::Wait;
 pub enum PlayFault {
     /// There was not enough memory.
     Memory,
-    /// A search is for what is no pattern, or its maker refused it.
+    /// The pattern of a search is invalid, or its maker refused it.
     Pattern,
 }
 
@@ -44,17 +44,17 @@ impl From<AllocError> for PlayFault {
     }
 }
 
-/// What becomes of the lines of a worker's calls.
+/// Whether the lines of a worker's calls are kept.
 #[derive(Clone, Copy, Debug, PartialEq, Eq)]
 pub enum Lines {
-    /// They are kept, one behind the other.
+    /// They are kept, one after the other.
     Kept,
     /// Each is dropped before the next call.
     Dropped,
 }
 
-// A call at its moment, and its line. The gate is reached before the call, and after it where it
-// was played.
+// A call at its moment, and its line. The gate is called before the call, and after it if it was
+// played.
 pub(crate) fn play_step<N: TableName, M: Maker, G: Gate, R: Wait>(
     context: &Context<N, G, R>,
     maker: &M,
@@ -111,11 +111,11 @@ fn leave(out: &mut ByteOut, lines: Lines)
     }
 }
 
-/// Plays these steps as `play_script` does those of a script, and gives what is left of the lines.
-/// If they are dropped, memory does not grow with the replies, which no clause says. The gate is
-/// told of the same points.
+/// Plays these steps as `play_script` does those of a script, and returns what is left of the
+/// lines. If they are dropped, memory does not grow with the replies, which no clause says. The
+/// gate is called at the same points.
 ///
-/// At `Ok` its worker has asked in turn what the steps want, and nothing is left but its end.
+/// If it returns `Ok`, its worker has made the steps' requests in turn, and only its end is left.
 pub fn play_lines<N: TableName, M: Maker + Sync, G: Gate, R: Wait, S: Steps + Drop>(
     context: &Context<N, G, R>,
     maker: &M,
@@ -161,22 +161,22 @@ pub fn play_lines<N: TableName, M: Maker + Sync, G: Gate, R: Wait, S: Steps + Dr
     (held, Ok(out))
 }
 
-/// Plays a worker's script on the shared cache, and gives what its calls print: a line for each,
-/// for the worker's own replies. The gate is told of each call before and after it, of each value
-/// that is copied, between its fetch and its copy, and of each step of an iterator, after it.
+/// Plays a worker's script on the shared cache, and returns what its calls print: a line for each,
+/// for the worker's own replies. The gate is called before and after each call, between the fetch
+/// and the copy of each value that is copied, and after each step of an iterator.
 ///
-/// A search for a call's pattern is made by `maker`, once, before the call asks anything.
+/// `maker` makes the search for a call's pattern once, before the call makes a request.
 ///
 /// `clock` decides what a call's moment is, as PHP's `apc.use_request_time` does: the second at
 /// which it is made, or that at which its request began.
 ///
-/// The pass has made no event, and may make one more than all calls of the script may. It comes
-/// back with the events that are left, which are at most as many fewer as all calls may make. Its
-/// worker has asked in turn what the calls want after its replies, and those are the ones of one
-/// thread at the events' places in what the pass has seen.
+/// The pass has made no event, and may make one more than all calls of the script may. It is
+/// returned with the events that are left: at most as many were used as all calls may make. Its
+/// worker has made in turn the requests that the calls make after its replies, and those are the
+/// ones of the single-threaded cache at the events' places in what the pass has seen.
 ///
-/// Without memory the worker stops, and also where a pattern of its script is none or is refused:
-/// some first of the events were made, and they stand.
+/// The worker stops if memory runs out, and also if a pattern of its script is invalid or is
+/// refused: then only the first of the events were made, and they count.
 pub fn play_script<N: TableName, M: Maker + Sync, G: Gate, R: Wait>(
     rt: &R,
     alloc: Global,

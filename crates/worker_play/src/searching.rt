@@ -21,7 +21,7 @@ use row_search::Maker;
 use script_read::Call;
 use std::sync::Wait;
 
-// Plays a call, and prints what it answers.
+// Plays a call, and prints its result.
 pub(crate) fn play_call<N: TableName, M: Maker, G: Gate, R: Wait>(
     context: &Context<N, G, R>,
     maker: &M,
@@ -57,7 +57,7 @@ pub(crate) fn play_call<N: TableName, M: Maker, G: Gate, R: Wait>(
     }
 }
 
-// Plays a call that may need a search. It is made once, and kept for all that the call asks. What
+// Plays a call that may need a search. It is made once, and kept for all requests of the call. What
 // it is made with is large, and stays out of the caller's frame.
 #[inline(never)]
 fn play_by_search<N: TableName, M: Maker, G: Gate, R: Wait>(

@@ -24,7 +24,7 @@ use row_search::Search;
 use std::alloc::AllocError;
 use std::sync::Wait;
 
-// The slot from which an iterator goes on after a step that went up to `end`.
+// The slot from which an iterator continues after a step that ended at `end`.
 fn next_slot(slots: u32, from: u32, end: u32) -> u32
     requires { from < slots }
     ensures is { result ≡ slot_after slots from (reply.Next end) }
@@ -33,7 +33,7 @@ fn next_slot(slots: u32, from: u32, end: u32) -> u32
     if from < end { end } else { slots }
 }
 
-// Keeps a step's items, and answers the slot up to which it went.
+// Keeps a step's items, and returns the slot at which it ended.
 fn keep(steps: &mut Vec<Reply>, made: Result<Chunk, AllocError>) -> Result<u32, AllocError>
     ensures { IfOk result (λ end. (chunk : Chunk) × (made ≡ Ok chunk) × (end ≡ chunk.next)
         × (steps.new.items ≡ steps.old.items ++ reply.Chunk chunk ∷ [])) }
@@ -44,7 +44,7 @@ fn keep(steps: &mut Vec<Reply>, made: Result<Chunk, AllocError>) -> Result<u32, 
     Ok(end)
 }
 
-// Goes over the active rows that the search finds, and prints the items of all steps.
+// Walks over the active rows that the search finds, and prints the items of all steps.
 pub(crate) fn walk_active<N: TableName, G: Gate, R: Wait>(
     context: &Context<N, G, R>,
     when: When,
@@ -90,7 +90,7 @@ pub(crate) fn walk_active<N: TableName, G: Gate, R: Wait>(
     (held, write_walk(out, fields, &steps))
 }
 
-// Goes over the removed rows that the search finds, all in one step, and prints their items.
+// Walks over the removed rows that the search finds, all in one step, and prints their items.
 pub(crate) fn walk_deleted<N: TableName, G: Gate, R: Wait>(
     context: &Context<N, G, R>,
     when: When,
