@@ -1,4 +1,4 @@
--- Generated runs: what is left of the workers, and what is told of them in the end.
+-- Generated runs: what is left of the workers, and the summary in the end.
 use Rattle.std.specs.Prelude.{◌≡◌, ℕ, suc, ◌+◌, ◌*◌, ◌-◌, ◌<◌, ◌≤◌, Bool, true, List, ◌∷◌, length}
 use Rattle.std.specs.Prelude.{replicate, slice_get, slice_index, Some}
 use mathlib.Core.List.{IsPrefix}
@@ -17,13 +17,13 @@ use Rattle.worker_play.specs.Ends.{HasEnded, HasMade, PlaysAll}
 use Rattle.worker_play.specs.Goes.{KnowsOwnEvents}
 use Rattle.crew_play.specs.declared.generated.Watched.{Watched}
 
--- what is told, as definitions say it
+-- the summary, as the definitions have it
 abbrev pub summary_in : Watched → Summary
 summary_in watched = record { inserts = watched.inserts; counters = watched.counters }
 
 -- A journal can be played from its first mark to its last by the workers of the generated scripts,
--- and then none wants anything. Worker 0 looks at the counters in it, after all others have ended.
--- What is told is of that play; and it is what has to be told of these scripts.
+-- and then none wants anything. Worker 0 reads the counters in it, after all others have ended. The
+-- summary is of that play; and it is the one that these scripts must have.
 pub record IsWatched (conf : Conf) (seed workers calls : ℕ) (watched : Summary) : Type 0 where
   pub journal : List Mark
   pub play : Play
@@ -47,15 +47,15 @@ pub record IsRun (conf : Conf) (workers calls : ℕ) : Type 0 where
 abbrev pub watched_budgets : ℕ → ℕ → List ℕ
 watched_budgets workers calls = (calls + 9) ∷ replicate (workers - 1) (calls + 1)
 
--- Each worker may make the events of its script and its end; worker 0 eight looks more.
+-- Each worker may make the events of its script and its end; worker 0 also eight looks.
 pub record HaveEnough (slots : ℕ) (budgets : List ℕ) (scripts : List (List Step)) : Type 0 where
   pub each : (w : ℕ) (script : List Step) → slice_get scripts w ≡ Some script
       → events_in slots script < slice_index budgets w
   pub first : (script : List Step) → slice_get scripts 0 ≡ Some script
       → events_in slots script + 9 ≤ slice_index budgets 0
 
--- Worker 0 has yet to end, the others of the first so many have. It has seen what they have seen.
--- If `all` says so, each has made all its calls.
+-- Worker 0 has not ended yet, the others of this number of first workers have. It has seen what
+-- they have seen. If `all` is true, each has made all its calls.
 pub record HaveMade (t : TableId) (conf : Conf) (scripts : List (List Step)) (count : ℕ)
     (first : PassView) (others : List PassView) (all : Bool) : Type 0 where
   pub table : first.table ≡ t

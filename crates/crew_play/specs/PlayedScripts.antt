@@ -13,9 +13,9 @@ use Rattle.script_read.specs.declared.script.Step.{Step}
 use Rattle.script_read.specs.Play.{Play, played, IsCompletePlay}
 use Rattle.reply_text.specs.Lines.{texts_of}
 
--- The journal can be played from its first mark to its last, and then no worker wants anything.
--- The texts have the lines of each worker's calls, for the replies that it is given in that play:
--- each is the one of one thread at its mark's place. The counts are those of the cache after it.
+-- The journal can be played from its first mark to its last, and then no worker wants anything. The
+-- texts have the lines of each worker's calls, for the replies of that play: each is that of the
+-- single-threaded cache at its mark's place. The counters are those of the cache after it.
 pub record IsPlayed (conf : Conf) (scripts : List (List Step)) (journal : List Mark)
     (texts : List (List ℕ)) (counts : Counts) : Type 0 where
   pub play : Play
@@ -24,8 +24,8 @@ pub record IsPlayed (conf : Conf) (scripts : List (List Step)) (journal : List M
   pub texts_are : texts ≡ texts_of conf scripts play.replies
   pub counts_are : counts ≡ counts_of play.stage.cache
 
--- So they were played. The core is the cache after that very play, and the words stand for it. They
--- are words of one thread, which have no windows.
+-- The same, and the core is the cache after that very play, and the words represent it. They are
+-- words of one thread, which have no windows.
 pub record IsLeftByPlay (conf : Conf) (scripts : List (List Step)) (journal : List Mark)
     (texts : List (List ℕ)) (counts : Counts) (core : Core) (words : VecWords) : Type 0 where
   pub is_played : IsPlayed conf scripts journal texts counts

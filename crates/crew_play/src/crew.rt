@@ -1,4 +1,4 @@
-//! Workers on threads of their own, all at once or behind the last one.
+//! Workers on threads of their own, all at once or after the last one.
 
 ghost use Rattle.std.specs.Prelude.{◌≡◌, ℕ, List, ◌+◌, ◌-◌, ◌<◌, ◌≤◌, [], length, slice_get};
 ghost use Rattle.std.specs.Prelude.{slice_index, vec_capacity, Some, Err, Contains};
@@ -97,8 +97,8 @@ fn behind<N: TableName, R: Wait>(
 }
 
 // Plays the scripts of the first `count` workers, each on a thread of its own. They end in their
-// order, and one that finds no memory, or whose pattern is refused, holds nobody up. Where one came
-// first, each learns of its end before it starts.
+// order, and one that runs out of memory, or whose pattern is refused, does not hold up the others.
+// If one came first, each learns of its end before it starts.
 pub(crate) fn play_crew<
     N: TableName + Send + Sync,
     M: Maker + Sync,

@@ -1,7 +1,8 @@
-//! Generated scripts on one cache, and what is told of them.
+//! Generated scripts on one cache, and their summary.
 
 ghost use Rattle.std.specs.Prelude.{◌≡◌, ◌≢◌, ℕ, List, ◌+◌, ◌*◌, ◌<◌, ◌≤◌, [], Some, length};
-ghost use Rattle.std.specs.Prelude.{slice_get, slice_index, IfOk, IfErr, IsTrue, IsFalse, is_ok, ◌&&◌};
+ghost use Rattle.std.specs.Prelude.{slice_get, slice_index, IfOk, IfErr, IsTrue, IsFalse, is_ok};
+ghost use Rattle.std.specs.Prelude.{◌&&◌};
 ghost use Rattle.std.specs.Result.{result_ok};
 ghost use Rattle.std.specs.Thread.{IsSync};
 ghost use Rattle.apcu_model.specs.declared.conf.Clock.TheVariants.{Line};
@@ -37,16 +38,16 @@ use std::sync::Wait;
 use std::thread::{Threads, join};
 use worker_play::{Context, Lines, PlayFault, observe, play_lines, play_out};
 
-/// What is told of a generated run.
+/// The summary of a generated run.
 #[derive(Clone, Copy, Debug, PartialEq, Eq)]
 pub struct Watched {
     /// How many rows the cache counted as inserted.
     pub inserts: u64,
-    /// What worker 0 found of each counter in the end.
+    /// The value of each counter that worker 0 found in the end.
     pub counters: [i64; 8],
 }
 
-// Worker 0 makes its looks and its end besides its calls, the others their end besides theirs.
+// Worker 0 makes its looks and its end in addition to its calls, the others their end.
 fn budgets(alloc: Global, workers: u32, calls: u32) -> Result<Vec<u32>, AllocError>
     requires some { 1 ≤ workers }
     requires calls { calls ≤ 1000000 }
@@ -57,7 +58,7 @@ fn budgets(alloc: Global, workers: u32, calls: u32) -> Result<Vec<u32>, AllocErr
     Ok(all)
 }
 
-// Whether others have made all their calls, and so has the worker that played so.
+// Whether others have made all their calls, and so has the worker with this result.
 fn and_made(others: bool, played: Result<ByteOut, PlayFault>) -> bool
     ensures { result ≡ (others && is_ok played) }
 {
@@ -76,9 +77,9 @@ struct Draws<'a, M, G> {
     gate: &'a G,
 }
 
-// Plays the generated scripts of the first `count` workers, each on a thread of its own. All but
-// worker 0 end in their order, and worker 0 learns of their ends. What comes back beside its pass
-// and them tells whether each has made all its calls.
+// Plays the generated scripts of the first `count` workers, each on a thread of its own. All except
+// worker 0 end in their order, and worker 0 learns of their ends. Returns its pass, their ends, and
+// whether each has made all its calls.
 fn play_drawn<
     N: TableName + Send + Sync,
     M: Maker + Sync,
@@ -226,20 +227,21 @@ fn are_too_many(workers: u32, calls: u32) -> bool
 }
 
 /// Plays the scripts that `generate` makes of these numbers on a cache of this shape, each worker
-/// on a thread of its own, and tells what the cache counted and what the counters came to. The gate
-/// is told of the same points as in `play_scripts`.
+/// on a thread of its own, and returns what the cache counted and the counters' final values. The
+/// gate is called at the same points as in `play_scripts`.
 ///
-/// Once all workers have made their calls and all but worker 0 have ended, worker 0 learns of their
-/// ends, looks at the counters `c0` to `c7` in order, and ends.
+/// After all workers have made their calls and all except worker 0 have ended, worker 0 learns of
+/// their ends, reads the counters `c0` to `c7` in order, and ends.
 ///
-/// Each call is made when its worker comes to it. No reply and no line is kept, and the journal is
-/// dropped. What is told is of a play of the
-/// scripts in which the looks come last, and it is the same for every such play: the number of
-/// stores and of different counters, and the sum of each counter's steps.
+/// Each call is made when its worker reaches it. No reply and no line is kept, and the journal is
+/// dropped. The summary is that of a play of the scripts in which the looks come last, and it is
+/// the same for every such play: the number of stores and of different counters, and the sum of
+/// each counter's steps.
 ///
-/// Nothing is made and nothing is played where the calls and the ends of all workers, and nine
-/// events more, are above 4,194,304: that is `TooMany`. A worker that finds no memory ends, the
-/// others play on, and the answer is `Memory`. No call has a pattern, so `Pattern` is no answer.
+/// If the calls and the ends of all workers, and nine more events, are above 4,194,304, nothing is
+/// generated and nothing is played: the result is `TooMany`. A worker that runs out of memory ends,
+/// the others play on, and the result is `Memory`. No call has a pattern, so `Pattern` is not
+/// returned.
 pub fn play_generated<M: Maker + Sync, G: Gate + Sync, R: Threads + Wait + Sync>(
     rt: &R,
     alloc: Global,

@@ -1,9 +1,9 @@
 //! All workers of a run: each plays its script on a thread of its own, on one shared cache.
 //!
 //! `play_scripts` opens the cache, starts a worker for each script, and waits until all have ended.
-//! What comes back is the journal, the cache, and for each worker the lines of its calls.
-//! `play_loaded` does so too, but the last worker plays alone before the others start.
-//! `play_generated` takes scripts that are made from a number, and tells what the counters came to.
+//! It returns the journal, the cache, and for each worker the lines of its calls. `play_loaded`
+//! does the same, but the last worker plays alone before the others start. `play_generated` plays
+//! scripts that are made from a number, and returns the counters' final values.
 #![tactic(auto)]
 
 mod budgets;

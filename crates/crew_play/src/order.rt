@@ -30,7 +30,7 @@ pub(crate) enum Order {
     LastFirst,
 }
 
-// Plays all scripts in this order. Whether a worker comes to its script's end or not, all others
+// Plays all scripts in this order. Whether a worker reaches its script's end or not, all others
 // play theirs.
 pub(crate) fn play_all<
     N: TableName + Send + Sync,

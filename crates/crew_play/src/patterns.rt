@@ -10,7 +10,7 @@ use row_search::{Maker, SearchFault};
 use script_read::{Script, Scripts};
 use std::alloc::Global;
 
-// Makes the regex of a pattern, and drops it again.
+// Compiles a pattern, and drops the regex.
 fn try_pattern<M: Maker>(alloc: Global, maker: &M, pattern: &Pattern) -> Result<(), CrewFault>
     ensures pattern { IfErr result (λ e. e ≡ faults.Pattern
         → IsRefusable (M.may_refuse maker.now) pattern.now) }
@@ -39,8 +39,8 @@ fn try_script<M: Maker>(alloc: Global, maker: &M, script: &Script) -> Result<(),
     Ok(())
 }
 
-// Makes the regex of each pattern of all scripts once. A pattern that is none, or that is refused,
-// so comes to light before anything is played.
+// Compiles each pattern of all scripts once. So an invalid or a refused pattern is found before
+// anything is played.
 pub(crate) fn try_patterns<M: Maker>(
     alloc: Global,
     maker: &M,

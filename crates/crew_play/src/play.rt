@@ -41,7 +41,7 @@ pub enum CrewFault {
     Memory,
     /// The calls may make more than 4,194,304 events, each worker's end included.
     TooMany,
-    /// An iterator's pattern is none, or its regex is refused.
+    /// An iterator's pattern is invalid, or its regex is refused.
     Pattern,
 }
 
@@ -53,29 +53,30 @@ impl From<AllocError> for CrewFault {
     }
 }
 
-/// What is left when all workers have ended.
+/// The result, after all workers have ended.
 #[derive(Drop)]
 pub struct Played {
     /// The marks of all events, in the order in which they took effect.
     pub journal: Journal,
     /// The lines of each worker's calls, those of worker 0 first.
     pub texts: Vec<ByteOut>,
-    /// What the cache counted.
+    /// The cache's counters.
     pub counts: Counts,
-    /// The cache as it then is, where it was to be kept.
+    /// The cache as it then is, if it was to be kept.
     pub left: Option<Left>,
 }
 
-/// A cache that is left when all workers have ended.
+/// A cache that is left after all workers have ended.
 #[derive(Drop)]
 pub struct Left {
-    /// What it keeps beside its words.
+    /// What it keeps outside its words.
     pub core: Core,
-    /// The words that stand for it.
+    /// The words that represent it.
     pub words: VecWords,
 }
 
-// The texts, where all workers have one. Want of memory is told before a pattern, whoever had it.
+// The texts, if all workers have one. Out of memory is reported before a pattern, whichever worker
+// had it.
 fn whole(alloc: Global, texts: Vec<Result<ByteOut, PlayFault>>) -> Result<Vec<ByteOut>, CrewFault>
     ensures all { IfOk result (λ all. map Ok all.items ≡ texts.items) }
     ensures memory { Contains texts.items (Err faults.Memory) → result ≡ Err Memory }
@@ -100,8 +101,8 @@ fn whole(alloc: Global, texts: Vec<Result<ByteOut, PlayFault>>) -> Result<Vec<By
     Ok(all)
 }
 
-// Closes the cache once all workers have ended. Only where it is to be kept are its words copied,
-// of which there are as many as the cache is large.
+// Closes the cache after all workers have ended. Its words, of which there are as many as the cache
+// is large, are copied only if it is to be kept.
 fn close<N: TableName, R: Wait>(
     rt: &R,
     shared: Shared<N>,
@@ -208,23 +209,23 @@ fn play_opened<M: Maker + Sync, G: Gate + Sync, R: Threads + Wait + Sync>(
     }
 }
 
-/// Plays the scripts on a cache of this shape, each worker on a thread of its own, and gives the
-/// journal, the lines of each worker's calls, and with `keep` the cache that is left. `maker` makes
-/// the regexes of patterns. The gate is told of each call of each worker, of each value that is
-/// copied, between its fetch and its copy, and of each step of an iterator.
+/// Plays the scripts on a cache of this shape, each worker on a thread of its own, and returns the
+/// journal, the lines of each worker's calls, and with `keep` the cache that is left. `maker`
+/// compiles the patterns. The gate is called at each call of each worker, for each value that is
+/// copied between its fetch and its copy, and at each step of an iterator.
 ///
 /// `clock` decides what a call's moment is, as PHP's `apc.use_request_time` does: the second at
 /// which it is made, or that at which its request began.
 ///
-/// The journal is a play of the scripts as the clock sees them: each call stands in it once, in its
-/// worker's order, and each reply is the one that a cache of one thread gives at that place. What
-/// is left is that cache after it, with its counts and its words.
+/// The journal is a play of the scripts as the clock sees them: each event is in it once, in its
+/// worker's order, and each reply is the one that a single-threaded cache gives at that place. What
+/// is left is that cache after it, with its counters and its words.
 ///
-/// Nothing is played where the calls may make more than 4,194,304 events, each worker's end
-/// included. Nor is it where the regex of a pattern can't be made: each is made once before the
-/// cache is opened. A worker that finds no memory for a value, a regex or a line ends at once, the
-/// others play on, and the answer is `Memory`; so it is with `Pattern` where the maker refuses a
-/// pattern only then.
+/// If the calls may make more than 4,194,304 events, each worker's end included, nothing is played.
+/// Nor is it if a pattern cannot be compiled: each is compiled once before the cache is opened. A
+/// worker that runs out of memory for a value, a regex or a line ends at once, the others play on,
+/// and the result is `Memory`; the same applies to `Pattern` if the maker refuses a pattern only
+/// then.
 pub fn play_scripts<M: Maker + Sync, G: Gate + Sync, R: Threads + Wait + Sync>(
     rt: &R,
     alloc: Global,
@@ -261,11 +262,11 @@ pub fn play_scripts<M: Maker + Sync, G: Gate + Sync, R: Threads + Wait + Sync>(
 }
 
 /// Plays the scripts as `play_scripts` does, with all that it promises, but the last worker's
-/// first: it is a loader, which plays alone and comes to its end before another one starts. Each of
+/// first: it is a loader, which plays alone and reaches its end before another one starts. Each of
 /// the others learns of that end before it starts. So the journal begins with the loader's marks,
-/// and has none of it behind them.
+/// and has none of it after them.
 ///
-/// Where the loader finds no memory, or its pattern is refused, the others play on.
+/// If the loader runs out of memory, or its pattern is refused, the others play on.
 pub fn play_loaded<M: Maker + Sync, G: Gate + Sync, R: Threads + Wait + Sync>(
     rt: &R,
     alloc: Global,
