@@ -1,4 +1,4 @@
--- Why a run came to no answer, and what comes of an input that was read.
+-- Why a run has no result, and how it ends for an input that was read.
 use Rattle.std.specs.Prelude.{◌≡◌, Bool, ℕ, ◌+◌, ◌<◌, List, length, Option, IfSome}
 use Rattle.io_edges.specs.Faults.{Rose}
 use Rattle.io_edges.specs.Reading.{HasTaken, HasTakenWithin}
@@ -43,30 +43,30 @@ IsCause may_refuse conf task before after faults_before faults_after Usage place
 IsCause may_refuse conf task before after faults_before faults_after WriteFault place reason = ⊥
 IsCause may_refuse conf task before after faults_before faults_after Differs place reason = ⊥
 
--- it is, wherever these bytes are the whole input
+-- it is the cause whenever these bytes are the whole input
 abbrev pub IsCauseIn : (Bool → List ℕ → Type 0) → Conf → Task → List ℕ → Ending → Type 0
 IsCauseIn may_refuse conf task bytes ending =
     (before after : Option (List ℕ)) (faults_before faults_after : ℕ) → WasRead before after bytes
     → IsCause may_refuse conf task before after faults_before faults_after
     ending.status ending.place ending.reason
 
--- what makes regexes and refuses none: a cause beside it is one beside any other
+-- a maker of regexes that refuses none: a cause with it is a cause with any other
 abbrev pub refuses_none : Bool → List ℕ → Type 0
 refuses_none fold text = ⊥
 
--- this is printed wherever these bytes are the whole input
+-- this is printed whenever these bytes are the whole input
 abbrev pub AnswersBytes : Settings → Task → List ℕ → Status → List ℕ → Type 0
 AnswersBytes s task bytes ends printed =
     (before after : Option (List ℕ)) → WasRead before after bytes
     → AnswersTask s task ends before after printed
 
--- how a run ends for a fault of what stands behind so many bytes
+-- the ending of a run for a fault of what follows this number of bytes
 abbrev pub ending_by : Status → ℕ → ScriptFault → Ending
 ending_by status ahead (faults.Bad place reason) =
     record { status = status; place = ahead + place; reason = reason }
 ending_by status ahead faults.Memory = record { status = NoMemory; place = 0; reason = End }
 
--- how a run ends whose scripts were not all played
+-- the status of a run whose scripts were not all played
 abbrev pub status_for : CrewFault → Status
 status_for crew.Memory = NoMemory
 status_for crew.TooMany = TooMany

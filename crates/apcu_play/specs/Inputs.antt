@@ -1,4 +1,4 @@
--- What an input spells for a run of each task, and where its first fault stands.
+-- What an input spells for a run of each task, and where its first fault is.
 use Rattle.std.specs.Prelude.{◌≡◌, ◌⊎◌, ℕ, ◌+◌, ◌<◌, ◌≤◌, List, [], ◌∷◌, ◌++◌, length, take, drop}
 use Rattle.std.specs.Prelude.{Bool, Option, Some, None}
 use Rattle.apcu_model.specs.declared.conf.Conf.{Conf}
@@ -18,8 +18,8 @@ use Rattle.preload_set.specs.Loader.{loader_of}
 
 -- ---- scripts
 
--- The first so many bytes are a bundle, and the rest spells scripts. The crew are these scripts
--- and, behind them, the bundle's loader.
+-- The first `len` bytes are a bundle, and the rest spells scripts. The crew are these scripts and,
+-- after them, the bundle's loader.
 pub record AreLoaded (len : ℕ) (input : List ℕ) (crew : List (List Step)) : Type 0 where
   pub records : List Record
   pub scripts : List (List Step)
@@ -28,12 +28,12 @@ pub record AreLoaded (len : ℕ) (input : List ℕ) (crew : List (List Step)) : 
   pub spelled : AreScripts (drop len input) scripts
   pub crew_is : crew ≡ scripts ++ loader_of records ∷ []
 
--- the whole input spells the crew, behind a bundle of so many bytes if there is one
+-- the whole input spells the crew, after a bundle of this number of bytes if there is one
 abbrev pub AreCrew : Option ℕ → List ℕ → List (List Step) → Type 0
 AreCrew None input crew = AreScripts input crew
 AreCrew (Some len) input crew = AreLoaded len input crew
 
--- the first so many bytes spell the scripts
+-- the first `len` bytes spell the scripts
 pub record AreInFront (len : ℕ) (input : List ℕ) (scripts : List (List Step)) : Type 0 where
   pub long : len ≤ length input
   pub spelled : AreScripts (take len input) scripts
@@ -46,7 +46,7 @@ Spells (Verify len) input scripts = AreInFront len input scripts
 
 -- ---- how many
 
--- The calls, with each worker's end, may make too many events; or a loader stands beside
+-- The calls, with each worker's end, may make too many events; or there is a loader in addition to
 -- `MOST_WORKERS` scripts.
 abbrev pub AreTooMany : Option ℕ → Conf → List (List Step) → Type 0
 AreTooMany None conf crew = most_events < all_events conf.slots crew
@@ -59,7 +59,7 @@ AreFew None conf crew = all_events conf.slots crew ≤ most_events
 AreFew (Some len) conf crew =
     (all_events conf.slots crew ≤ most_events) × (length crew ≤ MOST_WORKERS)
 
--- the scripts of a task that is no play are judged by their events alone
+-- the scripts of a task that is no play are measured by their events alone
 abbrev pub bundle_of : Task → Option ℕ
 bundle_of (Play bundle map) = bundle
 bundle_of (Generate seed crew each) = None
@@ -67,7 +67,7 @@ bundle_of (Verify len) = None
 
 -- ---- no scripts
 
--- The first so many bytes are a bundle, and the rest spells no scripts.
+-- The first `len` bytes are a bundle, and the rest spells no scripts.
 pub record AreLoadedAlone (len : ℕ) (input : List ℕ) : Type 0 where
   pub records : List Record
   pub long : len ≤ length input
@@ -78,13 +78,13 @@ abbrev pub IsNoCrew : Option ℕ → List ℕ → Type 0
 IsNoCrew None input = (scripts : List (List Step)) → ¬ AreScripts input scripts
 IsNoCrew (Some len) input = AreLoadedAlone len input
 
--- The input spells no scripts for a run of the task, though any bundle in front of them is one.
+-- The input spells no scripts for a run of the task, though any bundle in front of them is valid.
 abbrev pub SpellsNone : Task → List ℕ → Type 0
 SpellsNone (Play bundle map) input = IsNoCrew bundle input
 SpellsNone (Generate seed crew each) input = ⊥
 SpellsNone (Verify len) input = (scripts : List (List Step)) → ¬ AreInFront len input scripts
 
--- the place and the reason of the first fault of scripts behind so many bytes
+-- the place and the reason of the first fault of scripts after this number of bytes
 pub record IsFaultBehind (len : ℕ) (input : List ℕ) (place : ℕ) (reason : Reason) : Type 0 where
   pub behind : ℕ
   pub first : IsFirstScriptFault (drop len input) behind reason

@@ -1,4 +1,4 @@
--- What a status is as a number and as a message.
+-- The number and the message of a status.
 use Rattle.std.specs.Prelude.{ℕ, List, [], ◌++◌, codes}
 use Rattle.std.specs.Fmt.{decimal}
 use Rattle.notation.specs.declared.fault.Reason.{Reason}
@@ -21,7 +21,7 @@ code_of Pattern = 8
 code_of Differs = 9
 code_of Bundle = 10
 
--- what is told of each status but those of a script and of a bundle with a fault
+-- the message of each status except those of a script and of a bundle with a fault
 abbrev pub message_of : Status → List ℕ
 message_of Done = []
 message_of Usage = codes "apcu_run: usage\n"
@@ -35,7 +35,7 @@ message_of Pattern = codes "apcu_run: pattern\n"
 message_of Differs = codes "apcu_run: differs\n"
 message_of Bundle = []
 
--- how a message ends that tells a reason
+-- the end of a message with a reason
 abbrev pub reason_text : Reason → List ℕ
 reason_text reasons.End = codes ": end\n"
 reason_text reasons.Tag = codes ": tag\n"
@@ -54,12 +54,12 @@ reason_text reasons.Argument = codes ": argument\n"
 reason_text reasons.Workers = codes ": workers\n"
 reason_text reasons.Generator = codes ": generator\n"
 
--- what is told of the first fault of a script: its byte, from 0, and the reason
+-- the message of the first fault of a script: its byte, from 0, and the reason
 unfoldable pub script_message : ℕ → Reason → List ℕ
 script_message place reason =
     codes "apcu_run: script: byte " ++ (decimal place ++ reason_text reason)
 
--- what is told of the first fault of a bundle
+-- the message of the first fault of a bundle
 unfoldable pub bundle_message : ℕ → Reason → List ℕ
 bundle_message place reason =
     codes "apcu_run: bundle: byte " ++ (decimal place ++ reason_text reason)

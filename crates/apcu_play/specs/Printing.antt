@@ -1,4 +1,4 @@
--- What is printed of a play.
+-- The output of a play.
 use Rattle.std.specs.Prelude.{◌≡◌, ℕ, Bool, List, ◌++◌, Option, Some, None}
 use Rattle.apcu_model.specs.declared.conf.Clock.{Clock}
 use Rattle.apcu_model.specs.declared.conf.Conf.{Conf}
@@ -16,13 +16,13 @@ use Rattle.run_verify.specs.ReadPatterns.{AreReadable}
 use Rattle.apcu_play.specs.declared.status.Status.{Status}
 use Rattle.apcu_play.specs.Tasks.{LoadsFirst, played_text, verdict_text, ending_for}
 
--- what stands behind the workers' lines: the journal's, and the map of the cache where one is left
+-- what follows the workers' lines: the journal's, and the map of the cache if one is left
 abbrev pub printed_rest : List Mark → Option Left → List ℕ
 printed_rest marks None = journal_lines marks
 printed_rest marks (Some left) = journal_lines marks ++ map_text (cache_of left.core)
 
--- This is printed of some journal of the crew that is legal and complete, with a loader first where
--- a bundle is loaded, and with a map behind it or without.
+-- This is printed of some journal of the crew that is legal and complete, with a loader first if a
+-- bundle is loaded, and with a map after it or without.
 pub record PrintsCrew (conf : Conf) (clock : Clock) (bundle : Option ℕ) (map : Bool)
     (crew : List (List Step)) (printed : List ℕ) : Type 0 where
   pub journal : List Mark
@@ -32,7 +32,7 @@ pub record PrintsCrew (conf : Conf) (clock : Clock) (bundle : Option ℕ) (map :
   pub text : printed ≡ played_text map conf (all_timed clock crew) journal
 
 -- This is the line of the verdict on an output, and a run that has written it ends so. Each pattern
--- of the scripts is one.
+-- of the scripts is valid.
 pub record PrintsVerdict (conf : Conf) (clock : Clock) (scripts : List (List Step))
     (output : List ℕ) (ends : Status) (printed : List ℕ) : Type 0 where
   pub verdict : Verdict

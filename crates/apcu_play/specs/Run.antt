@@ -1,5 +1,5 @@
 -- What a run promises. `left` is what a source has left, `held` what a sink holds, before and after
--- the run; a source or a sink may not tell.
+-- the run; a source or a sink may not report it.
 use Rattle.std.specs.Prelude.{◌≡◌, ◌⊎◌, Bool, true, false, ℕ, ◌<◌, ◌≤◌, List, length, take, Option}
 use Rattle.std.specs.Prelude.{Some}
 use Rattle.std.specs.Io.KnownBytes.{append_known}
@@ -30,7 +30,7 @@ pub record WritesAll
   pub answer : Answers printed
   pub written : held_after ≡ append_known held_before printed
 
--- only the first of such a text was written
+-- only the first part of such a text was written
 pub record WritesPart
     (Answers : List ℕ → Type 0) (held_before held_after : Option (List ℕ)) : Type 0 where
   pub printed : List ℕ
@@ -45,20 +45,20 @@ abbrev pub Replays : Settings → Status → Option (List ℕ) → Option (List 
 Replays s ends left_before left_after held_before held_after =
     WritesAll (AnswersTask s s.task ends left_before left_after) held_before held_after
 
--- what the settings ask for, however a run ends that has written it
+-- what the settings ask for, however a run that has written it ends
 abbrev pub AnswersSome
     : Settings → Option (List ℕ) → Option (List ℕ) → List ℕ → Type 0
 AnswersSome s left_before left_after printed =
     (ends : Status) × AnswersTask s s.task ends left_before left_after printed
 
--- only the first of it was written
+-- only the first part of it was written
 abbrev pub ReplaysPart : Settings → Option (List ℕ) → Option (List ℕ) → Option (List ℕ)
     → Option (List ℕ) → Type 0
 ReplaysPart s left_before left_after held_before held_after =
     WritesPart (AnswersSome s left_before left_after) held_before held_after
 
--- whether all of a text was written: it stands behind what was held, or only the first of it and a
--- write failed
+-- whether all of a text was written: it follows what was held, or only the first part of it does
+-- and a write failed
 abbrev pub WasWritten : Bool → List ℕ → Option (List ℕ) → Option (List ℕ) → ℕ → ℕ → Type 0
 WasWritten true text held_before held_after faults_before faults_after =
     (held_after ≡ append_known held_before text) × (faults_after ≡ faults_before)
@@ -68,14 +68,14 @@ WasWritten false text held_before held_after faults_before faults_after =
     × (held_after ≡ append_known held_before (take count text))
     × Rose faults_before faults_after
 
--- the message was told, or the first of it where a write failed
+-- the message was printed, or the first part of it if a write failed
 pub record TellsMessage
     (message : List ℕ) (held_before held_after : Option (List ℕ)) (faults_before faults_after : ℕ)
     : Type 0 where
   pub all : Bool
   pub written : WasWritten all message held_before held_after faults_before faults_after
 
--- a script's first fault was told
+-- a script's first fault was printed
 pub record TellsRefusal (task : Task)
     (left_before left_after held_before held_after : Option (List ℕ))
     (faults_before faults_after : ℕ)
@@ -86,7 +86,7 @@ pub record TellsRefusal (task : Task)
   pub written :
       TellsMessage (script_message place reason) held_before held_after faults_before faults_after
 
--- a bundle's first fault was told
+-- a bundle's first fault was printed
 pub record TellsUnloaded (task : Task)
     (left_before left_after held_before held_after : Option (List ℕ))
     (faults_before faults_after : ℕ)
@@ -101,14 +101,14 @@ pub record TellsUnloaded (task : Task)
 abbrev pub IsUnlessMemory : Status → Status → Type 0
 IsUnlessMemory expected status = (status ≡ expected) ⊎ (status ≡ NoMemory)
 
--- an answer was written whole, if memory was found: a verdict is that of an output, or of none
+-- a result was written whole, if memory was found: a verdict is that of an output, or of none
 abbrev pub IsWrittenWhole : Task → Status → Type 0
 IsWrittenWhole (Play bundle map) status = IsUnlessMemory Done status
 IsWrittenWhole (Generate seed crew each) status = IsUnlessMemory Done status
 IsWrittenWhole (Verify len) status = (status ≡ Differs) ⊎ IsUnlessMemory Done status
 
--- What a run that reads its input must come to on this cache, where its source tells and no fault
--- was counted. It is answered only where no pattern of the scripts may be refused.
+-- The status that a run that reads its input must have, if its source reports what it has left and
+-- no fault was counted. It has a result only if no pattern of the scripts may be refused.
 pub record CompletesInput
     (may_refuse : Bool → List ℕ → Type 0) (conf : Conf) (task : Task) (status : Status)
     (left_before : Option (List ℕ)) (reads_before reads_after writes_before writes_after : ℕ)
@@ -136,14 +136,14 @@ pub record CompletesInput
       → ¬ Rose reads_before reads_after
       → IsUnlessMemory TooLong status
 
--- What a generated run must come to where no write failed.
+-- The status that a generated run must have if no write failed.
 pub record CompletesSeed
     (crew each : ℕ) (status : Status) (writes_before writes_after : ℕ) : Type 0 where
   pub done : generated_events crew each ≤ most_events → ¬ Rose writes_before writes_after
       → IsUnlessMemory Done status
   pub too_many : most_events < generated_events crew each → IsUnlessMemory TooMany status
 
--- what a run for this task must come to
+-- the status that a run for this task must have
 abbrev pub CompletesTask
     : (Bool → List ℕ → Type 0) → Conf → Task → Status → Option (List ℕ) → ℕ → ℕ → ℕ → ℕ → Type 0
 CompletesTask may_refuse conf (Play bundle map) status left_before
@@ -158,7 +158,7 @@ CompletesTask may_refuse conf (Verify len) status left_before
     CompletesInput may_refuse conf (Verify len) status left_before
     reads_before reads_after writes_before writes_after
 
--- what the settings ask for must be come to
+-- the status that the settings ask for is reached
 abbrev pub Completes
     : (Bool → List ℕ → Type 0) → Settings → Status → Option (List ℕ) → ℕ → ℕ → ℕ → ℕ → Type 0
 Completes may_refuse s status = CompletesTask may_refuse s.conf s.task status

@@ -1,5 +1,5 @@
--- What each task of a run comes to: what is printed for it, and what causes each other status.
--- `left` is what a source has left before and after the run; a source may not tell.
+-- The result of each task of a run: what is printed for it, and what causes each other status.
+-- `left` is what a source has left before and after the run; a source may not report it.
 use Rattle.std.specs.Prelude.{◌≡◌, ◌≢◌, Bool, true, false, ℕ, ◌+◌, ◌-◌, ◌*◌, ◌<◌, ◌≤◌}
 use Rattle.std.specs.Prelude.{List, [], ◌++◌, length, drop, codes, Option, Some, None}
 use Rattle.std.specs.Fmt.{decimal}
@@ -39,7 +39,7 @@ pub record WasRead (left_before left_after : Option (List ℕ)) (input : List �
   pub whole : IsAtEnd left_after
   pub short : length input ≤ LONGEST_INPUT
 
--- nothing was read, and nothing is told that only a read brings
+-- nothing was read, and the status is none that only a read causes
 pub record IsUnread (status : Status) (left_before left_after : Option (List ℕ))
     (faults_before faults_after : ℕ) : Type 0 where
   pub left : left_after ≡ left_before
@@ -58,7 +58,7 @@ LeavesInput (Verify len) status left_before left_after faults_before faults_afte
 
 -- ---- what is printed
 
--- where a bundle is loaded, the first marks are all of its loader's, who is the last worker
+-- if a bundle is loaded, the first marks are all of its loader's, which is the last worker
 abbrev pub LoadsFirst : Option ℕ → List (List Step) → List Mark → Type 0
 LoadsFirst None crew journal = Unit {0}
 LoadsFirst (Some len) crew journal = ComeFirst (length crew - 1) journal
@@ -68,7 +68,7 @@ abbrev pub map_text_after : Option JournalPlay → List ℕ
 map_text_after None = []
 map_text_after (Some p) = map_text p.stage.cache
 
--- the output of a journal, and behind it the map of the cache after it, where a map is wanted
+-- the output of a journal, followed by the map of the cache after it, if a map is wanted
 abbrev pub played_text : Bool → Conf → List (List Step) → List Mark → List ℕ
 played_text false conf crew journal = output_of conf crew journal
 played_text true conf crew journal =
@@ -76,9 +76,9 @@ played_text true conf crew journal =
 
 -- The whole input spells these scripts, and this is the output of a journal that is legal and
 -- complete for them as the clock sees them: each event once, in its worker's order, with the reply
--- that the cache of one thread gives there. Where a bundle stands in front of the scripts, its
--- loader is the last of them, and comes first in the journal. Where a map is wanted, that of the
--- cache after the journal follows.
+-- that the single-threaded cache gives there. If a bundle is in front of the scripts, its loader is
+-- the last of them, and comes first in the journal. If a map is wanted, that of the cache after the
+-- journal follows.
 pub record AnswersInput (s : Settings) (bundle : Option ℕ) (map : Bool)
     (left_before left_after : Option (List ℕ)) (printed : List ℕ) : Type 0 where
   pub input : List ℕ
@@ -113,15 +113,15 @@ verdict_text NoJournal = codes "no: journal\n"
 verdict_text (Event k) = codes "no: event " ++ (decimal k ++ codes "\n")
 verdict_text (Byte place) = codes "no: byte " ++ (decimal place ++ codes "\n")
 
--- how a run ends that has written it whole
+-- the status of a run that has written it whole
 abbrev pub ending_for : Verdict → Status
 ending_for Yes = Done
 ending_for NoJournal = Differs
 ending_for (Event k) = Differs
 ending_for (Byte place) = Differs
 
--- The first so many bytes of the whole input spell these scripts, whose patterns are patterns, and
--- this is the verdict on the rest as an output of theirs, as the clock sees them.
+-- The first `len` bytes of the whole input spell these scripts, whose patterns are valid, and this
+-- is the verdict on the rest as an output of theirs, as the clock sees them.
 pub record AnswersOutput (s : Settings) (len : ℕ) (ends : Status)
     (left_before left_after : Option (List ℕ)) (printed : List ℕ) : Type 0 where
   pub input : List ℕ
@@ -135,7 +135,7 @@ pub record AnswersOutput (s : Settings) (len : ℕ) (ends : Status)
   pub text : printed ≡ verdict_text verdict
   pub ended : ends ≡ ending_for verdict
 
--- what a run for this task prints, and how it ends where that was written whole
+-- what a run for this task prints, and how it ends if that was written whole
 abbrev pub AnswersTask
     : Settings → Task → Status → Option (List ℕ) → Option (List ℕ) → List ℕ → Type 0
 AnswersTask s (Play bundle map) ends left_before left_after printed =
@@ -161,8 +161,8 @@ pub record IsRefused (task : Task) (left_before left_after : Option (List ℕ)) 
   pub reason : Reason
   pub at : IsRefusedAt task left_before left_after place reason
 
--- The whole input begins with no bundle, though the task asks for one: its first fault is at this
--- place and of this reason.
+-- The whole input does not begin with a bundle, though the task asks for one: its first fault is at
+-- this place and of this reason.
 pub record IsUnloadedAt (task : Task)
     (left_before left_after : Option (List ℕ)) (place : ℕ) (reason : Reason) : Type 0 where
   pub input : List ℕ
@@ -195,7 +195,7 @@ IsCrowdedTask conf (Verify len) left_before left_after =
     IsCrowded conf (Verify len) left_before left_after
 
 -- The whole input spells scripts of few enough events, and the regex of a pattern in them may be
--- refused: the grammar reads none there, or the maker may refuse it.
+-- refused: the grammar does not parse it, or the maker may refuse it.
 pub record IsUnsearchable (may_refuse : Bool → List ℕ → Type 0) (conf : Conf) (task : Task)
     (left_before left_after : Option (List ℕ)) : Type 0 where
   pub input : List ℕ

@@ -1,4 +1,4 @@
-//! What a run is asked for, gathered before anything is printed.
+//! The result of a run, gathered before anything is printed.
 
 ghost use Rattle.std.specs.Prelude.{◌≡◌, ◌⊎◌, ◌<◌, ◌≤◌, ◌++◌, length, IfOk, IfErr};
 ghost use Rattle.apcu_model.specs.declared.limits.TheConstants.{LONGEST_INPUT};
@@ -26,7 +26,7 @@ use std::mem::forget;
 use std::sync::Wait;
 use std::thread::Threads;
 
-// How a run ends whose scripts were not all played, or judged by.
+// The status of a run whose scripts were not all played, or judged by.
 fn status_of(fault: CrewFault) -> Status
     ensures { result ≡ status_for fault }
 {
@@ -37,8 +37,8 @@ fn status_of(fault: CrewFault) -> Status
     }
 }
 
-// What the scripts of an input come to, as it is to be printed. The input's memory goes before they
-// are played, so that the replies may take it.
+// The output for the scripts of an input. The input's memory is freed before they are played, so
+// that the replies may take it.
 fn answer_input<R: Threads + Wait + Sync, M: Maker + Sync, G: Gate + Sync>(
     rt: &R,
     alloc: Global,
@@ -59,7 +59,7 @@ fn answer_input<R: Threads + Wait + Sync, M: Maker + Sync, G: Gate + Sync>(
     let crew = crew_of(alloc, &bytes, preload)?;
     drop(bytes);
     let played = play(rt, alloc, settings, &crew, preload, map, maker, gate);
-    // The program ends soon, and its memory goes at once.
+    // The program ends soon, and its memory is freed then.
     forget(crew);
     match played {
         Ok(printed) => Ok(printed),
@@ -67,8 +67,7 @@ fn answer_input<R: Threads + Wait + Sync, M: Maker + Sync, G: Gate + Sync>(
     }
 }
 
-// What an output is judged to be, as it is to be printed. The first so many bytes of the input are
-// its scripts.
+// The output for the verdict on an output. The first `len` bytes of the input are its scripts.
 fn answer_output<M: Maker>(
     alloc: Global,
     settings: &Settings,
@@ -99,7 +98,7 @@ fn answer_output<M: Maker>(
     }
 }
 
-// What generated scripts come to, as it is to be printed.
+// The output for generated scripts.
 fn answer_seed<R: Threads + Wait + Sync, M: Maker + Sync, G: Gate + Sync>(
     rt: &R,
     alloc: Global,
@@ -128,7 +127,7 @@ fn answer_seed<R: Threads + Wait + Sync, M: Maker + Sync, G: Gate + Sync>(
     }
 }
 
-/// What the settings ask for, as it is to be printed; or why there is nothing to print.
+/// The output that the settings ask for; or why there is nothing to print.
 pub(crate) fn answer<R: Threads + Wait + Sync, S: Source, M: Maker + Sync, G: Gate + Sync>(
     rt: &R,
     alloc: Global,

@@ -12,7 +12,7 @@ use io_edges::Sink;
 use notation::Reason;
 use script_read::ScriptFault;
 
-// How a run ended, with the first fault of a script or a bundle that has one.
+// How a run ended, with the first fault of a script or a bundle, if there is one.
 #[derive(Clone, Copy)]
 pub(crate) struct Ending {
     pub(crate) status: Status,
@@ -33,8 +33,8 @@ impl Ending {
     }
 }
 
-// How a run ends for a fault of what stands behind so many bytes of its input, or for want of
-// memory to read it.
+// How a run ends because of a fault in what follows `ahead` bytes of its input, or because there
+// was no memory to read it.
 pub(crate) fn ending_by(status: Status, ahead: u64, fault: &ScriptFault) -> Ending
     requires { (place : ℕ) (reason : Reason) → fault.now ≡ ScriptFault.Bad place reason
         → ahead + place < 2 ^ 64 }
@@ -54,7 +54,7 @@ pub(crate) fn ending_by(status: Status, ahead: u64, fault: &ScriptFault) -> Endi
     }
 }
 
-// Tells how a run ended, where it is not done.
+// Prints how a run ended, if it is not done.
 pub(crate) fn tell_ending<E: Sink>(err: &mut E, ending: Ending)
     ensures silent { ending.status ≡ Status.Done
         → (E.held err.new ≡ E.held err.old) × (E.faults err.new ≡ E.faults err.old) }

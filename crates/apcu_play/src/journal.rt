@@ -1,4 +1,4 @@
-//! What is printed of a journal.
+//! Printing a journal.
 
 ghost use Rattle.std.specs.Prelude.{◌≡◌, ◌++◌, ◌<◌, ◌≤◌, OnOk};
 ghost use Rattle.std.specs.Fmt.{decimal};
@@ -25,7 +25,7 @@ pub(crate) fn write_journal(out: &mut ByteOut, journal: &Journal) -> Result<(), 
 fn write_mark(out: &mut ByteOut, mark: Mark) -> Result<(), AllocError>
     ensures { OnOk result (out.new ≡ out.old ++ mark_line mark) }
 {
-    // Most events are of one of the first ten workers, and meet nobody.
+    // Most events are of one of the first ten workers, and have an empty mask.
     if mark.mask == 0 && mark.worker < 10 {
         return write_digit(out, mark.worker);
     }
@@ -34,7 +34,7 @@ fn write_mark(out: &mut ByteOut, mark: Mark) -> Result<(), AllocError>
     out.push(b"\n")
 }
 
-// The line of one of the first ten workers that met nobody.
+// The line of one of the first ten workers with an empty mask.
 fn write_digit(out: &mut ByteOut, worker: u32) -> Result<(), AllocError>
     requires { worker < 10 }
     ensures { OnOk result (out.new ≡ out.old ++ (decimal worker ++ ends_line)) }
@@ -47,7 +47,7 @@ fn write_mask(out: &mut ByteOut, mask: u64, workers: u32) -> Result<(), AllocErr
     requires { workers ≤ 64 }
     ensures { OnOk result (out.new ≡ out.old ++ mask_text mask workers) }
 {
-    // Most events meet nobody.
+    // The mask of most events is empty.
     if mask == 0 {
         return Ok(());
     }

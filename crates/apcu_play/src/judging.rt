@@ -46,7 +46,7 @@ fn write_verdict(out: &mut ByteOut, verdict: Verdict) -> Result<(), AllocError>
     }
 }
 
-// How a run ends that has written a verdict whole.
+// The status of a run that has written all of a verdict.
 fn ending_for(verdict: Verdict) -> Status
     ensures { result ≡ ending_for verdict }
 {
@@ -82,8 +82,8 @@ fn verdict_on<M: Maker>(
 }
 
 /// Judges an output of the scripts under a clock, and gathers the line of the verdict. Nothing is
-/// judged where the calls may make more than 4,194,304 events, each worker's end included, or where
-/// one of their patterns is none or is refused.
+/// judged if the calls may make more than 4,194,304 events, each worker's end included, or if one
+/// of their patterns is invalid or is refused.
 pub(crate) fn judge<M: Maker>(
     alloc: Global,
     conf: &Conf,

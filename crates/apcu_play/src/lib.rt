@@ -1,4 +1,4 @@
-//! One run of the program: it plays scripts of apcu calls, and prints what each call answers and
+//! One run of the program: it plays scripts of apcu calls, and prints what each call returns and
 //! the order in which they took effect; or it plays scripts that are made from a number, and prints
 //! their summary; or it judges an output.
 #![tactic(auto)]

@@ -1,4 +1,4 @@
-//! What is told of a run that was not played to its end: one line.
+//! The message of a run that was not played to its end: one line.
 
 ghost use Rattle.std.specs.Prelude.{◌≡◌, ◌++◌};
 ghost use Rattle.std.specs.Fmt.{decimal};
@@ -11,7 +11,7 @@ use io_edges::Sink;
 use itoa::Buffer;
 use notation::Reason;
 
-/// Tells a status on `err`, a line. It takes no memory.
+/// Prints the message of a status on `err`, one line. It takes no memory.
 pub fn tell<E: Sink>(err: &mut E, status: Status)
     ensures { TellsMessage (message_of status)
         (E.held err.old) (E.held err.new) (E.faults err.old) (E.faults err.new) }
@@ -19,7 +19,8 @@ pub fn tell<E: Sink>(err: &mut E, status: Status)
     let _all = write_text(err, status.message());
 }
 
-// Tells a fault on `err`, a line that begins so, with the fault's byte, from 0, and its reason.
+// Prints a fault on `err`, a line that begins with `begins`, with the fault's byte, from 0, and its
+// reason.
 fn tell_place<E: Sink>(err: &mut E, begins: &[u8], place: u64, reason: Reason)
     ensures { TellsMessage (begins.now ++ (decimal place ++ reason_text reason))
         (E.held err.old) (E.held err.new) (E.faults err.old) (E.faults err.new) }
@@ -34,7 +35,7 @@ fn tell_place<E: Sink>(err: &mut E, begins: &[u8], place: u64, reason: Reason)
     let _all = write_text(err, ending_of(reason));
 }
 
-/// Tells the first fault of a script on `err`, a line with its byte, from 0, and its reason. It
+/// Prints the first fault of a script on `err`, a line with its byte, from 0, and its reason. It
 /// takes no memory.
 pub fn tell_fault<E: Sink>(err: &mut E, place: u64, reason: Reason)
     ensures { TellsMessage (script_message place reason)
@@ -43,7 +44,7 @@ pub fn tell_fault<E: Sink>(err: &mut E, place: u64, reason: Reason)
     tell_place(err, b"apcu_run: script: byte ", place, reason);
 }
 
-/// Tells the first fault of a bundle on `err`, a line with its byte, from 0, and its reason. It
+/// Prints the first fault of a bundle on `err`, a line with its byte, from 0, and its reason. It
 /// takes no memory.
 pub fn tell_unloaded<E: Sink>(err: &mut E, place: u64, reason: Reason)
     ensures { TellsMessage (bundle_message place reason)

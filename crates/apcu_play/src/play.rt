@@ -1,4 +1,4 @@
-//! What is printed of a play.
+//! Printing a play.
 
 ghost use Rattle.std.specs.Prelude.{◌≡◌, ◌≢◌, ◌<◌, ◌≤◌, ◌++◌, length, IfOk, IfErr, IfSome, OnOk};
 ghost use Rattle.seg_words.specs.contracts.vec_words.VecWordsWordsIn.TheImpl as held;
@@ -28,18 +28,18 @@ use std::alloc::{AllocError, Global};
 use std::sync::Wait;
 use std::thread::Threads;
 
-/// What a run prints: the lines of each worker, and then the rest: the journal's lines with a map
-/// behind them or without, those of a summary, or that of a verdict. They are written one after the
-/// other from where they are, so no reply is copied once more.
+/// The output of a run: the lines of each worker, and then the rest: the journal's lines, with or
+/// without a map after them, those of a summary, or that of a verdict. They are written one after
+/// the other without being gathered, so no reply is copied again.
 #[derive(Drop)]
 pub(crate) struct Printed {
     pub(crate) texts: Vec<ByteOut>,
     pub(crate) rest: ByteOut,
-    /// How a run ends that has written all of it.
+    /// The status of a run that has written all of it.
     pub(crate) ends: Status,
 }
 
-// What is printed of scripts that were played, with a map of the cache where one is left.
+// The output of scripts that were played, with a map of the cache if one is left.
 fn printed_of(alloc: Global, played: Played) -> Result<Printed, AllocError>
     requires stand { IfSome played.left (λ l. CacheStands held.ghosts l.core l.words) }
     ensures texts { IfOk result (λ p. p.texts.items ≡ played.texts.items) }
@@ -71,9 +71,9 @@ fn printed_of(alloc: Global, played: Played) -> Result<Printed, AllocError>
 }
 
 /// Plays the scripts under a clock, each worker on a thread of its own, and gathers what is
-/// printed: the lines of each worker, the journal, and the map where it is wanted. Where a bundle
-/// is loaded, the last script is its loader's, which ends before any other begins. Nothing is
-/// played where the calls may make more than 4,194,304 events, each worker's end included.
+/// printed: the lines of each worker, the journal, and the map if it is wanted. If a bundle is
+/// loaded, the last script is its loader's, which ends before any other begins. Nothing is played
+/// if the calls may make more than 4,194,304 events, each worker's end included.
 pub(crate) fn play<R: Threads + Wait + Sync, M: Maker + Sync, G: Gate + Sync>(
     rt: &R,
     alloc: Global,
@@ -111,7 +111,7 @@ pub(crate) fn play<R: Threads + Wait + Sync, M: Maker + Sync, G: Gate + Sync>(
 }
 
 /// Plays scripts that are made from a number, and gathers the summary that is printed of them.
-/// Nothing is played where they make more than 4,194,304 events, the observer's nine included.
+/// Nothing is played if they make more than 4,194,304 events, the observer's nine included.
 pub(crate) fn watch<R: Threads + Wait + Sync, M: Maker + Sync, G: Gate + Sync>(
     rt: &R,
     alloc: Global,

@@ -1,4 +1,4 @@
-//! What is printed, written to a sink.
+//! Writing the output to a sink.
 
 ghost use Rattle.std.specs.Prelude.{◌++◌, codes};
 ghost use Rattle.std.specs.Fmt.{decimal};
@@ -11,7 +11,7 @@ use io_edges::{Sink, write_all};
 use itoa::Buffer;
 use notation::ByteOut;
 
-/// Prints all of it; whether it was written. It takes no memory.
+/// Prints all of it, and returns whether it was written. It takes no memory.
 pub(crate) fn print<K: Sink>(out: &mut K, printed: &Printed) -> bool
     ensures { WasWritten result (worker_texts 0 printed.now.texts.items ++ printed.now.rest)
         (K.held out.old) (K.held out.new) (K.faults out.old) (K.faults out.new) }
@@ -53,7 +53,7 @@ fn print_worker<K: Sink>(out: &mut K, worker: usize, text: &[u8]) -> bool
     write_text(out, text)
 }
 
-// Writes a text; whether all of it was written. It takes no memory.
+// Writes a text, and returns whether all of it was written. It takes no memory.
 pub(crate) fn write_text<K: Sink>(out: &mut K, text: &[u8]) -> bool
     ensures { WasWritten result text.now
         (K.held out.old) (K.held out.new) (K.faults out.old) (K.faults out.new) }

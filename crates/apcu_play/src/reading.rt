@@ -1,4 +1,4 @@
-//! What is read of an input, and what it spells.
+//! Reading an input, and what it spells.
 
 ghost use Rattle.std.specs.Prelude.{◌≡◌, ◌≤◌, Bool, length, drop, IfOk, IfErr, Some};
 ghost use Rattle.apcu_model.specs.declared.conf.Conf.{Conf};
@@ -34,7 +34,7 @@ pub(crate) fn input_of<S: Source>(alloc: Global, input: &mut S) -> Result<Vec<u8
     }
 }
 
-// The crew of scripts behind a bundle of so many bytes: these, and the bundle's loader.
+// The crew of scripts after a bundle of `len` bytes: these, and the bundle's loader.
 fn loaded_crew(alloc: Global, bytes: &[u8], len: u64) -> Result<Scripts, Ending>
     requires short { length bytes.now ≤ LONGEST_INPUT }
     ensures crew { IfOk result (λ crew. AreLoaded len bytes.now crew) }
@@ -63,8 +63,8 @@ fn loaded_crew(alloc: Global, bytes: &[u8], len: u64) -> Result<Scripts, Ending>
     }
 }
 
-/// The crew of a play: the scripts that the input spells, and behind them the loader of a bundle of
-/// so many bytes, if one stands in front of them.
+/// The crew of a play: the scripts that the input spells, and after them the loader of a bundle of
+/// `preload` bytes, if there is one in front of them.
 pub(crate) fn crew_of(alloc: Global, bytes: &[u8], preload: Option<u64>) -> Result<Scripts, Ending>
     requires short { length bytes.now ≤ LONGEST_INPUT }
     ensures crew { IfOk result (λ crew. AreCrew preload bytes.now crew) }
@@ -81,7 +81,7 @@ pub(crate) fn crew_of(alloc: Global, bytes: &[u8], preload: Option<u64>) -> Resu
     }
 }
 
-// How a run ends whose input has fewer bytes than its scripts are to have.
+// The ending of a run whose input is shorter than its scripts should be.
 fn cut_short(bytes: &[u8]) -> Ending
     ensures status { result.status ≡ Status.Script }
     ensures place { result.place ≡ length bytes.now }
@@ -94,7 +94,7 @@ fn cut_short(bytes: &[u8]) -> Ending
     }
 }
 
-/// The scripts that the first so many bytes of an input spell, and the bytes behind them.
+/// The scripts that the first `len` bytes of an input spell, and the bytes after them.
 pub(crate) fn scripts_in_front(
     alloc: Global,
     bytes: &[u8],

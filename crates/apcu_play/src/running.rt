@@ -1,4 +1,4 @@
-//! One run of the program, from its words to its status.
+//! One run of the program, from its arguments to its status.
 
 ghost use Rattle.std.specs.Prelude.{◌≡◌, ◌≢◌, ◌+◌, ◌<◌, ◌≤◌, length, None, IfSome};
 ghost use Rattle.io_edges.specs.Faults.{Rose};
@@ -27,7 +27,7 @@ use std::alloc::Global;
 use std::sync::Wait;
 use std::thread::Threads;
 
-// Answers on `out` what these settings ask, or tells why not.
+// Prints on `out` what these settings ask for, or a message why not.
 fn outcome_on<R: Threads + Wait + Sync, S: Source, K: Sink, M: Maker + Sync, G: Gate + Sync>(
     rt: &R,
     alloc: Global,
@@ -60,7 +60,7 @@ fn outcome_on<R: Threads + Wait + Sync, S: Source, K: Sink, M: Maker + Sync, G: 
     }
 }
 
-// Answers on `out` what the words ask, or tells why not.
+// Prints on `out` what the words ask for, or a message why not.
 fn outcome<R: Threads + Wait + Sync, S: Source, K: Sink, M: Maker + Sync, G: Gate + Sync>(
     rt: &R,
     alloc: Global,
@@ -82,24 +82,25 @@ fn outcome<R: Threads + Wait + Sync, S: Source, K: Sink, M: Maker + Sync, G: Gat
 }
 
 /// Plays the scripts of `input`, each worker on a thread of its own, and prints on `out` what each
-/// worker's calls answer and the journal: the order in which the calls took effect. What went wrong
-/// is told on `err`, a line. With the option `--preload` a bundle in front of the scripts is loaded
-/// before any of them begins, by a worker behind theirs; with `--map 1` the cache's map follows the
-/// journal. With `--generate` it plays scripts that are made from a number, leaves
-/// `input` as it is, and prints their summary. With `--verify` it plays nothing: it prints the
-/// verdict on an output that stands behind its scripts.
+/// worker's calls return and the journal: the order in which the calls took effect. If it fails, it
+/// prints a message of one line on `err`. With the option `--preload`, a bundle in front of the
+/// scripts is loaded before any of them begins, by an additional last worker; with `--map 1` the
+/// cache's map follows the journal. With `--generate` it plays scripts that are made from a number,
+/// leaves `input` unread, and prints their summary. With `--verify` it plays nothing: it prints the
+/// verdict on an output that follows its scripts.
 ///
-/// `words` are the program's words with its name first, options as `conf_read::read_settings` reads
-/// them. A script's calls are those of PHP's APCu functions, one on a line, with their
-/// arguments in PHP's serialize notation. `maker` makes the regexes of their patterns; `gate` is
-/// told of each call, of each value that is copied and of each step of an iterator.
+/// It never frees the memory of its scripts: it is for a program that ends with it.
 ///
-/// Whatever the scripts and however the workers meet, each reply printed is the one that a cache of
-/// one thread gives at that call's place in the printed journal (`replayed`). Every other status
-/// has its cause in a clause of its own, and leaves `out` as it was, but for `Differs`, which
-/// prints the verdict, and `WriteFault`, which leaves the first of what was to be printed.
+/// `words` are the program's arguments with its name first, options as `conf_read::read_settings`
+/// reads them. A script's calls are those of PHP's APCu functions, one on a line, with their
+/// arguments in PHP's serialize notation. `maker` compiles their patterns; `gate` is called at each
+/// call, for each value that is copied and at each step of an iterator.
 ///
-/// It never gives back the memory of its scripts: it is for a program that ends with it.
+/// Whatever the scripts and however the workers meet, each reply printed is the one that a
+/// single-threaded cache gives at that call's place in the printed journal (`replayed`). Every
+/// other status has its cause in a clause of its own, and leaves `out` as it was, except `Differs`,
+/// which prints the verdict, and `WriteFault`, which leaves the first part of what was to be
+/// printed.
 pub fn run<R: Threads + Wait + Sync, S: Source, K: Sink, E: Sink, M: Maker + Sync, G: Gate + Sync>(
     rt: &R,
     alloc: Global,
@@ -112,16 +113,16 @@ pub fn run<R: Threads + Wait + Sync, S: Source, K: Sink, E: Sink, M: Maker + Syn
 ) -> Status
     // What is printed is the output of a journal that is legal and complete for the scripts of the
     // whole input, on the cache and by the clock that the words ask for; of a generated run it is
-    // the summary of such a journal for the generated scripts; and of an output that is one, yes.
+    // the summary of such a journal for the generated scripts; and of a correct output, `yes`.
     ensures replayed { IfSome (settings_of words.now) (λ s. result ≡ Status.Done
         → Replays s Status.Done
         (S.left input.old) (S.left input.new) (K.held out.old) (K.held out.new)) }
-    // Of an output that is none, it is what it is not.
+    // For an output that is none of these scripts, it is the first difference.
     ensures differs { IfSome (settings_of words.now) (λ s. result ≡ Status.Differs
         → Replays s Status.Differs
         (S.left input.old) (S.left input.new) (K.held out.old) (K.held out.new)) }
 
-    // Each other status, and when it comes.
+    // Each other status, and when it is returned.
     ensures usage { result ≡ Status.Usage → settings_of words.now ≡ None }
     ensures faulty_words { settings_of words.now ≡ None → IsUnlessMemory Status.Usage result }
     ensures script { IfSome (settings_of words.now) (λ s. result ≡ Status.Script
@@ -149,7 +150,7 @@ pub fn run<R: Threads + Wait + Sync, S: Source, K: Sink, E: Sink, M: Maker + Syn
         Completes (M.may_refuse maker.now) s result (S.left input.old)
         (S.faults input.old) (S.faults input.new) (K.faults out.old) (K.faults out.new)) }
 
-    // What is left on the sinks.
+    // What was written to the sinks.
     ensures cut { IfSome (settings_of words.now) (λ s. result ≡ Status.WriteFault
         → ReplaysPart s (S.left input.old) (S.left input.new)
         (K.held out.old) (K.held out.new)) }

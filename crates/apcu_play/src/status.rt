@@ -9,7 +9,7 @@ use std::process::ExitCode;
 /// How a run ended. Its number is the program's exit status.
 #[derive(Clone, Copy, Debug, PartialEq, Eq)]
 pub enum Status {
-    /// All calls were made, and what is told of them was printed; or the verdict is `yes`.
+    /// All calls were made, and their results were printed; or the verdict is `yes`.
     Done,
     /// The words are not those of this program, or an option's value is out of its range.
     Usage,
@@ -25,12 +25,12 @@ pub enum Status {
     TooLong,
     /// The calls may make more than 4,194,304 events, each worker's end included.
     TooMany,
-    /// An iterator's pattern is none, or its regex is refused.
+    /// An iterator's pattern is invalid, or its regex is refused.
     Pattern,
-    /// The output that was judged is none of its scripts. The verdict was printed.
+    /// The output that was judged is not one of its scripts. The verdict was printed.
     Differs,
-    /// The input begins with no bundle, though one is asked for. The message has the first fault's
-    /// place and reason.
+    /// The input does not begin with a bundle, though one is asked for. The message has the first
+    /// fault's place and reason.
     Bundle,
 }
 
@@ -54,15 +54,15 @@ impl Status {
         }
     }
 
-    /// What a program ends with whose run ended so: its exit status is the code.
+    /// The exit code of a program whose run ended with this status: its exit status is the code.
     pub fn exit_code(self) -> ExitCode
         ensures { exit_status result ≡ code_of self }
     {
         ExitCode::from(self.code())
     }
 
-    /// What is told of it on standard error, a line; nothing where the run is done, and nothing
-    /// here of a script or a bundle with a fault, of which place and reason are told.
+    /// Its message on standard error, a line; empty if the run is done, and also for a script or a
+    /// bundle with a fault, whose message has the place and reason.
     pub fn message(self) -> &'static [u8]
         ensures { result.now ≡ message_of self }
     {

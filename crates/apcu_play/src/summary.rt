@@ -1,4 +1,4 @@
-//! What is printed of a generated run.
+//! Printing the summary of a generated run.
 
 ghost use Rattle.std.specs.Prelude.{◌≡◌, ◌++◌, codes, OnOk};
 ghost use Rattle.std.specs.Fmt.{decimal, signed_decimal};
