@@ -1,4 +1,4 @@
-//! The program: `main`, which hands its words and the standard streams to `apcu_play::run`.
+//! The program: `main`, which passes its arguments and the standard streams to `apcu_play::run`.
 #![tactic(auto)]
 
 use apcu_play::{Status, run, tell};
@@ -10,8 +10,8 @@ use std::io::ErrorKind;
 use std::process::ExitCode;
 use std::rt::Env;
 
-// The program's words, its name first. A word that is not UTF-8 makes the command line as faulty as
-// none.
+// The program's arguments, its name first. If one is not UTF-8, the command line is as invalid as
+// an empty one.
 fn words_of<R: Env + AllocGlobal>(rt: &R) -> Result<Vec<String>, AllocError> {
     match env::args(rt) {
         Ok(words) => words.collect(rt.alloc()),
