@@ -51,7 +51,7 @@ pub record AnswerNumbers : Type 0 where
   pub bad : asking.BAD ≡ 9
   pub too_long : asking.TOO_LONG ≡ 10
 
--- that of each answer of `cache_new`, and how many seats there are
+-- that of each result of `cache_new`, and the number of seats
 pub record OtherNumbers : Type 0 where
   pub made : making.MADE ≡ 0
   pub bad_shape : making.BAD_SHAPE ≡ 1
@@ -70,7 +70,7 @@ pub record StructSizes : Type 0 where
   pub view : size (layout view_laid.the_row) ≡ 12
   pub found : size (layout found_laid.the_row) ≡ 32
 
--- the fields of each struct, in the order in which they lie in memory
+-- the fields of each struct, in the order in which they are in memory
 pub record FieldOrders : Type 0 where
   pub shape : (s : Shape) → shape_laid.the_type.as_values s
       ≡ (s.words, (s.slots, (s.ttl, (s.segments, tt))))

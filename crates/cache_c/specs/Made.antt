@@ -18,13 +18,13 @@ conf_of shape = record {
   segments = shape.segments;
 }
 
--- its words stand for the empty cache of this shape, and no seat holds a block
+-- its words represent the empty cache of this shape, and no seat holds a block
 pub record IsEmpty (conf : Conf) (cache : Cache) : Type 0 where
   pub stand : StandsForCache cache
   pub empty : cache_of cache.core ≡ empty_cache conf
   pub seats : seats_of cache ≡ replicate 64 0
 
--- why none was made: no cache has this shape, or memory is missing for one that has
+-- why none was made: no cache has this shape, or there was no memory for one that has
 abbrev pub IsRefusal : Shape → ℕ → Type 0
 IsRefusal shape why =
     ((why ≡ BAD_SHAPE) × (IsUsable (conf_of shape) → ⊥)) ⊎

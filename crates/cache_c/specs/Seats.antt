@@ -1,4 +1,4 @@
--- What seats hold: a seat names the block that somebody copies from, while nobody else is kept out.
+-- What seats hold: a seat names a block from which a caller copies without keeping out the others.
 use Rattle.std.specs.Prelude.{◌≡◌, ℕ, ◌+◌, ◌%◌, ◌<◌, if◌then◌else◌, nat_lt, ⊤, List, [], ◌∷◌}
 use Rattle.std.specs.Prelude.{length, take, drop, slice_index}
 use Rattle.seg_words.specs.declared.layout.TheConstants.{IMAGE_LENGTH}

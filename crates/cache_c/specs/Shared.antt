@@ -1,4 +1,4 @@
--- Look-ups by many at once, and their uses, which are counted later.
+-- Look-ups by many callers at once, and their uses, which are counted later.
 use Rattle.std.specs.Prelude.{◌≡◌, ℕ, ◌<◌, ◌≤◌, Bool, true, false, List, length, slice_index, Option, Some, None}
 use Rattle.late_words.specs.Zeros.{with_zeros}
 use Rattle.apcu_model.specs.Cache.{Row}
@@ -15,7 +15,7 @@ use Rattle.cache_c.specs.Asked.{IsToldBy, is_short}
 use Rattle.cache_c.specs.Standing.{StandsForCache, cache_words}
 use Rattle.cache_c.specs.Told.{found_row}
 
--- what a look-up needs to know of a cache beside its words
+-- what a look-up needs to know of a cache besides its words
 abbrev pub view_of : Cache → View
 view_of cache = record {
   slots = (cache_of cache.core).conf.slots;
@@ -23,8 +23,8 @@ view_of cache = record {
   len = length (cache_words cache);
 }
 
--- The cache stands, this is what a look-up needs to know of it, and these are the first of its
--- words; the others are 0.
+-- The words represent the cache, this is what a look-up needs to know of it, and these are the
+-- first of its words; the others are 0.
 pub record IsShared (cache : Cache) (view : View) (words : List ℕ) : Type 0 where
   pub stand : StandsForCache cache
   pub is_view : view ≡ view_of cache
@@ -50,13 +50,13 @@ answer_in found = record {
   len = found.len;
 }
 
--- the place of a row, or 0 where there is none
+-- the place of a row, or 0 if there is none
 abbrev pub place_or_0 : Option Row → ℕ
 place_or_0 None = 0
 place_or_0 (Some row) = row.place
 
--- It is what a fetch of the key answers at the moment t, and tells the place of the row that the
--- fetch finds.
+-- It is the result of a fetch of the key at the moment t, with the place of the row that the fetch
+-- finds.
 pub record IsFoundFor (cache : Cache) (key : List ℕ) (t : ℕ) (found : Found) : Type 0 where
   pub told : is_short key ≡ true
       → IsToldBy (cache_words cache) (found_in (found_row key t (cache_of cache.core)))

@@ -1,4 +1,4 @@
--- What is told of a cache by numbers.
+-- Information about a cache, by numbers.
 use Rattle.std.specs.Prelude.{◌≡◌, ◌≢◌, ℕ, ◌==◌, if◌then◌else◌, nat_lt, nat_le, min, ⊤, List, []}
 use Rattle.std.specs.Prelude.{◌∷◌, length, map, filter, take, drop, Option, Some, None}
 use Rattle.std.specs.Prelude.{◌+◌, ◌-◌, ◌<◌, ◌≤◌, zero, suc}
@@ -17,7 +17,7 @@ use Rattle.cache_c.specs.Standing.{StandAt}
 
 -- ---- rows
 
--- what is noted of a row beside its key and its value, by these numbers
+-- the information about a row besides its key and its value, by these numbers
 abbrev pub noted_by : ToldRow → RowInfo
 noted_by told = record {
   ttl = told.ttl;
@@ -29,8 +29,8 @@ noted_by told = record {
   size = told.size;
 }
 
--- The numbers tell this row of a list: the place of its block, its key by the place of its bytes,
--- what the information calls note of it, and its value.
+-- The numbers are those of this row of a list: the place of its block, its key by the place of its
+-- bytes, what the information calls return of it, and its value.
 pub record IsRowBy (words : List ℕ) (list : ℕ) (row : Row) (told : ToldRow) : Type 0 where
   pub place : told.place ≡ row.place
   pub some : told.place ≢ 0
@@ -40,29 +40,29 @@ pub record IsRowBy (words : List ℕ) (list : ℕ) (row : Row) (told : ToldRow) 
   pub noted : noted_by told ≡ info_of_row row
   pub value : IsValueBy words row.graph told.value
 
--- so does each of them the row of its place in the list
+-- the same for each of them and the row at its place in the list
 abbrev pub AreRowsBy : List ℕ → ℕ → List Row → List ToldRow → Type 0
 AreRowsBy words slot [] [] = ⊤
 AreRowsBy words slot (row ∷ rows) (told ∷ tolds) =
     IsRowBy words slot row told × AreRowsBy words slot rows tolds
 AreRowsBy words slot _ _ = ⊥
 
--- The first places of a slice tell rows of a list, as many as there are and there is room for, and
--- the others are as they were.
+-- The first places of a slice have rows of a list, as many as there are and there is room for, and
+-- the others are unchanged.
 pub record AreListedBy (words : List ℕ) (slot : ℕ) (all : List Row) (old new : List ToldRow)
     (n : ℕ) : Type 0 where
   pub count : n ≡ min (length all) (length old)
   pub rows : AreRowsBy words slot (take n all) (take n new)
   pub others : drop n new ≡ drop n old
 
--- the rows of a list: a slot's, or behind the slots the removed rows
+-- the rows of a list: a slot's, or after the slots the removed rows
 abbrev pub rows_of : Cache → ℕ → List Row
 rows_of c slot =
     if nat_lt slot c.conf.slots then filter (is_in_slot c.conf slot) c.rows else
     if slot == c.conf.slots then c.removed else []
 
 -- A listing of this list, with none of its rows skipped, writes all of them, and would leave the
--- slice as it is.
+-- slice unchanged.
 pub record IsWholeList (words : List ℕ) (c : Cache) (list : ℕ) (there : List ToldRow) (n : ℕ)
     : Type 0 where
   pub all : n ≡ length (rows_of c list)
@@ -73,8 +73,8 @@ abbrev pub rows_from : Cache → ℕ → ℕ → ℕ
 rows_from c from zero = 0
 rows_from c from (suc lists) = rows_from c from lists + length (rows_of c (from + lists))
 
--- Whole lists from one up to another are in the slice, each behind those before it. The next one,
--- if it is still one of those asked for, has more rows than there is room for.
+-- Whole lists from one up to another are in the slice, each after those before it. The next one, if
+-- it is still one of those requested, has more rows than there is room for.
 pub record AreListsBy (words : List ℕ) (c : Cache) (from to : ℕ) (old new : List ToldRow)
     (listing : Listing) : Type 0 where
   pub lists : (i : ℕ) → from + i < listing.next
@@ -91,14 +91,14 @@ pub record AreListsBy (words : List ℕ) (c : Cache) (from to : ℕ) (old new : 
 abbrev pub found_row : List ℕ → ℕ → Cache → Option Row
 found_row key t c = if is_short key then live_row key t c else None
 
--- the numbers tell the row of the key, or that there is none
+-- the numbers are those of the key's row, or say that there is none
 abbrev pub IsFoundBy : List ℕ → Cache → List ℕ → Option Row → ToldRow → Type 0
 IsFoundBy words c key None told = told.place ≡ 0
 IsFoundBy words c key (Some row) told = IsRowBy words (slot_of c.conf key) row told
 
 -- ---- counts
 
--- what is counted in a cache, the words of the blocks of its rows, and those of its gaps
+-- the counters of a cache, the words of the blocks of its rows, and those of its gaps
 abbrev pub counts_told : Cache → ToldCounts
 counts_told c = record {
   hits = c.hits;
@@ -116,12 +116,12 @@ counts_told c = record {
 abbrev pub gap_told : Extent → Gap
 gap_told gap = record { place = gap.place; size = gap.size }
 
--- those of the gaps that begin at a place or past it
+-- those of the gaps that begin at or after a place
 abbrev pub gaps_from : ℕ → List Extent → List Extent
 gaps_from from gaps = filter (λ gap. nat_le from gap.place) gaps
 
--- The first places of a slice tell gaps of a list, as many as there are and there is room for, and
--- the others are as they were.
+-- The first places of a slice have gaps of a list, as many as there are and there is room for, and
+-- the others are unchanged.
 pub record AreGapsBy (all : List Extent) (old new : List Gap) (n : ℕ) : Type 0 where
   pub count : n ≡ min (length all) (length old)
   pub gaps : take n new ≡ map gap_told (take n all)

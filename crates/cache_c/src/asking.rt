@@ -29,13 +29,13 @@ use cache_core::{Look, Scalar};
 use counter_entry::{IncAnswer, cas_in, inc_in};
 use seg_words::{HEAD_WORDS, words_in};
 
-/// What is asked of a cache.
+/// A request to a cache.
 #[repr(C)]
 #[derive(Clone, Copy)]
 pub struct Ask {
-    /// Which request.
+    /// The number of the request.
     pub kind: u32,
-    /// Which kind of value is stored.
+    /// The kind of the value that is stored.
     pub value: u32,
     /// In seconds; 0 is no limit.
     pub ttl: u32,
@@ -44,22 +44,22 @@ pub struct Ask {
     /// The 64 bits of an integer: the value's number, the step of a counter, what a
     /// compare-and-swap expects, or a seat.
     pub number: u64,
-    /// Those of what a compare-and-swap sets, or how many bytes a string has at least for which
+    /// Those of what a compare-and-swap sets, or the least length in bytes of a string for which
     /// the seat is taken.
     pub set: u64,
     /// The hash of the key, as PHP computes it.
     pub hash: u64,
 }
 
-/// What a cache answers.
+/// The answer of a cache.
 #[repr(C)]
 #[derive(Clone, Copy)]
 pub struct Answer {
-    /// Which answer.
+    /// The number of the answer.
     pub kind: u32,
     /// The place of a string's bytes.
     pub place: u32,
-    /// The number of an integer; 0 or 1 of a truth value.
+    /// The number of an integer; 0 or 1 of a boolean.
     pub number: i64,
     /// How many bytes a string has.
     pub len: u64,
@@ -89,15 +89,15 @@ pub const HOLD: u32 = 8;
 pub const OTHER: u32 = 4;
 /// No live row has the key.
 pub const ABSENT: u32 = 5;
-/// It was not done, or it is not so.
+/// It was not done, or it is false.
 pub const NO: u32 = 6;
-/// It was done, or it is so.
+/// It was done, or it is true.
 pub const YES: u32 = 7;
 /// Nothing was counted.
 pub const NO_NUMBER: u32 = 8;
-/// Nothing is asked: the request or the value is of no kind.
+/// No event took place: the request or the value is of no kind.
 pub const BAD: u32 = 9;
-/// Nothing is asked: the key or the string has 4 GB or more.
+/// No event took place: the key or the string has 4 GB or more.
 pub const TOO_LONG: u32 = 10;
 
 // An answer without numbers.
@@ -119,7 +119,7 @@ fn flag(done: bool) -> u32
     if done { YES } else { NO }
 }
 
-// What a scalar's value is.
+// The answer for a scalar.
 pub(crate) fn scalar(value: Scalar) -> Answer
     ensures { IsScalarBy value result }
 {
@@ -140,7 +140,7 @@ pub(crate) fn scalar(value: Scalar) -> Answer
     }
 }
 
-// What counting came to.
+// The answer of counting.
 fn counted(answer: IncAnswer) -> Answer
     ensures { (words : List ℕ) → IsToldBy words (reply_of answer) result }
 {
@@ -184,7 +184,7 @@ fn is_long(answer: &Answer, seat: u64, least: u64) -> bool
 }
 
 impl Cache {
-    /// One event: what is asked, its key, and the bytes of the value that is stored. What a seat
+    /// One event: the request, its key, and the bytes of the value that is stored. What a seat
     /// holds does not move, except for the seat that a `HOLD` takes.
     pub(crate) fn ask(&mut self, ask: &Ask, key: &[u8], bytes: &[u8]) -> Answer
         requires may { MayAsk self.old ask.now key.now }
@@ -203,7 +203,7 @@ impl Cache {
         self.answer(ask, key, slot, bytes)
     }
 
-    // One event that takes no seat. Here and below `slot` is the key's.
+    // One event that takes no seat. Here and below `slot` is that of the key.
     fn answer(&mut self, ask: &Ask, key: &[u8], slot: u32, bytes: &[u8]) -> Answer
         requires short { length key.now < 2 ^ 32 }
         requires slot { slot ≡ slot_of self.old.core.conf key.now }
@@ -217,7 +217,7 @@ impl Cache {
         let t = ask.t;
         let ttl = ask.ttl;
         let number = ask.number;
-        // An answer without numbers is made once, behind all kinds of requests.
+        // An answer without numbers is made once, after all kinds of requests.
         let kind = match ask.kind {
             LOOK => return self.look(key, slot, t).0,
             COUNT => return self.count(key, slot, number, ttl, t),
@@ -267,7 +267,7 @@ impl Cache {
         self.store_scalar(key, slot, kind, number, ttl, exclusive, t)
     }
 
-    // The same of a string: its bytes go from the slice into the row.
+    // The same for a string: its bytes are copied from the slice into the row.
     fn store_text(
         &mut self,
         key: &[u8],
@@ -292,7 +292,7 @@ impl Cache {
         )
     }
 
-    // The same of a scalar, if the kind is one's.
+    // The same for a scalar, if the kind is one's.
     fn store_scalar(
         &mut self,
         key: &[u8],
@@ -321,8 +321,8 @@ impl Cache {
         stored(answer)
     }
 
-    // Looks the key up, and counts it; and the place of the row that it finds, if that holds no
-    // scalar, else 0.
+    // Looks the key up, and counts it. Also returns the place of the row that it finds, if that
+    // holds no scalar, otherwise 0.
     fn look(&mut self, key: &[u8], slot: u32, t: u64) -> (Answer, u32)
         requires short { length key.now < 2 ^ 32 }
         requires slot { slot ≡ slot_of self.old.core.conf key.now }
@@ -339,8 +339,8 @@ impl Cache {
         }
     }
 
-    // The same. If it answers a string of at least `least` bytes, the seat holds its row from now
-    // on.
+    // The same. If the answer is a string of at least `least` bytes, the seat holds its row from
+    // now on.
     fn hold(&mut self, key: &[u8], slot: u32, seat: u64, least: u64, t: u64) -> Answer
         requires short { length key.now < 2 ^ 32 }
         requires slot { slot ≡ slot_of self.old.core.conf key.now }
@@ -358,7 +358,7 @@ impl Cache {
         answer
     }
 
-    // The seat holds the block at a place from now on, in which the string of this answer stands.
+    // The seat holds the block at a place from now on, which contains the string of this answer.
     fn sit(&mut self, seat: u32, at: u32, _answer: &Answer)
         requires seat { seat < 64 }
         requires stand { StandsForCache self.old }

@@ -9,7 +9,7 @@ ghost use Rattle.cache_c.specs.Told.{counts_told, AreGapsBy, gaps_from};
 
 use crate::cache::Cache;
 
-/// What a cache counts, and its words.
+/// The counters of a cache, and its words.
 #[repr(C)]
 #[derive(Clone, Copy)]
 pub struct ToldCounts {
@@ -19,9 +19,9 @@ pub struct ToldCounts {
     pub misses: u64,
     /// Rows that were stored, since then.
     pub inserts: u64,
-    /// How often all rows had to go, since the cache was cleared.
+    /// How often all rows were dropped to make room, since the cache was cleared.
     pub expunges: u64,
-    /// The rows, expired ones too.
+    /// The rows, expired ones included.
     pub entries: u64,
     /// The words of the blocks of these rows.
     pub row_words: u64,
@@ -35,12 +35,12 @@ pub struct ToldCounts {
 pub struct Gap {
     /// Its first word.
     pub place: u32,
-    /// How many words it has.
+    /// The number of its words.
     pub size: u32,
 }
 
 impl Cache {
-    /// What it counts, and its words.
+    /// The counters of the cache, and its words.
     pub(crate) fn counts(&mut self) -> ToldCounts
         requires stand { StandsForCache self.old }
         ensures same { StandsUnchanged self.old self.new }
@@ -61,7 +61,7 @@ impl Cache {
         }
     }
 
-    // The first gap at or past a place, as its place and its size.
+    // The first gap at or after a place, as its place and its size.
     fn gap(&mut self, from: u32) -> Option<(u32, u32)>
         requires stand { StandsForCache self.old }
         ensures same { StandsUnchanged self.old self.new }
@@ -71,8 +71,8 @@ impl Cache {
         self.core.slots().sma().gap_from(&mut self.words.late, from)
     }
 
-    /// Fills the slice with the gaps at or past a place, by rising place. It answers how many were
-    /// written.
+    /// Fills the slice with the gaps at or after a place, by rising place. Returns the number that
+    /// was written.
     pub(crate) fn list_gaps(&mut self, from: u32, out: &mut [Gap]) -> u64
         requires stand { StandsForCache self.old }
         ensures same { StandsUnchanged self.old self.new }

@@ -1,5 +1,5 @@
-//! The engine as a library for C: a handle to a cache, and the calls on it. No call looks for null:
-//! C comes to them by its header, which does.
+//! The engine as a library for C: a handle to a cache, and the calls on it. No call checks for
+//! null: C calls them through their header, which does.
 #![tactic(auto)]
 
 mod asking;
@@ -75,7 +75,7 @@ pub extern "C" fn cache_hash_unchecked(key: &[u8]) -> u64
     hash_of(key)
 }
 
-/// Asks the cache at `at` for one event. The request contains the hash of its key.
+/// Carries out one event on the cache at `at`. The request contains the hash of its key.
 #[unsafe(no_mangle)]
 pub unsafe extern "C" fn cache_ask_unchecked(
     at: *mut u8,
@@ -138,8 +138,8 @@ pub unsafe extern "C" fn cache_find_row_unchecked(at: *mut u8, key: &[u8], t: u6
 }
 
 /// Writes rows of a list of the cache at `at`, after the first `skip`, to the `room` places at
-/// `out`: those of a slot, or of the list behind the slots, which has the removed rows. Returns how
-/// many it wrote. Nothing changes.
+/// `out`: those of a slot, or of the list after the slots, which has the removed rows. Returns the
+/// number that it wrote. Nothing changes.
 #[unsafe(no_mangle)]
 pub unsafe extern "C" fn cache_list_rows_unchecked(
     at: *mut u8,
@@ -158,7 +158,7 @@ pub unsafe extern "C" fn cache_list_rows_unchecked(
 /// Writes the rows of the lists from `from` up to `to` of the cache at `at`, list after list, to
 /// the `room` places at `out`, until all rows of one do not fit. Returns the first list that it did
 /// not write, which is `to` if all fit, and the number of rows of those before it. What the places
-/// behind these rows have is arbitrary. Nothing changes.
+/// after these rows contain is arbitrary. Nothing changes.
 #[unsafe(no_mangle)]
 pub unsafe extern "C" fn cache_list_slots_unchecked(
     at: *mut u8,
@@ -175,7 +175,7 @@ pub unsafe extern "C" fn cache_list_slots_unchecked(
 }
 
 /// Writes the gaps of the cache at `at` from a place on, by rising place, to the `room` places at
-/// `out`. Returns how many it wrote. Nothing changes.
+/// `out`. Returns the number that it wrote. Nothing changes.
 #[unsafe(no_mangle)]
 pub unsafe extern "C" fn cache_list_gaps_unchecked(
     at: *mut u8,

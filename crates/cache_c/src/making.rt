@@ -1,4 +1,4 @@
-//! A cache is made.
+//! Making a cache.
 
 ghost use Rattle.std.specs.Prelude.{◌≡◌, IfOk, IfErr};
 ghost use Rattle.apcu_model.specs.Conf.{IsUsable};
@@ -12,17 +12,17 @@ use late_words::LateWords;
 use max_tree::MaxRow;
 use std::alloc::{AllocError, Global};
 
-/// The shape of a cache, as `Conf` of `apcu_model` has it.
+/// The shape of a cache, as in `Conf` of `apcu_model`.
 #[repr(C)]
 #[derive(Clone, Copy)]
 pub struct Shape {
-    /// All words of the segments.
+    /// The number of words of all segments.
     pub words: u32,
-    /// How many of them are slots.
+    /// The number of slots among them.
     pub slots: u32,
     /// In seconds; 0 is never.
     pub ttl: u32,
-    /// How many segments there are.
+    /// The number of segments.
     pub segments: u32,
 }
 
@@ -30,7 +30,7 @@ pub struct Shape {
 pub const MADE: u32 = 0;
 /// No cache has this shape.
 pub const BAD_SHAPE: u32 = 1;
-/// Memory is missing.
+/// There was not enough memory.
 pub const NO_ROOM: u32 = 2;
 
 // An empty cache of a usable shape.

@@ -31,31 +31,31 @@ use value_image::{bytes_are_packed, string_len};
 pub struct ToldRow {
     /// The place of its block; 0 if there is no row.
     pub place: u32,
-    /// The list it stands in: its slot's, or behind the slots that of the removed rows.
+    /// The list that it is in: its slot's, or after the slots that of the removed rows.
     pub slot: u32,
     /// The place of its key's bytes.
     pub key_place: u32,
     /// How many bytes its key has.
     pub key_len: u32,
-    /// How many seconds it lives from its creation on; 0 is for ever.
+    /// How many seconds it lives after its creation; 0 is no limit.
     pub ttl: u32,
     /// The size of its block.
     pub size: u32,
     /// When it was created.
     pub ctime: u64,
-    /// When its value was changed last.
+    /// When its value was last changed.
     pub mtime: u64,
-    /// When it was used last.
+    /// When it was last used.
     pub atime: u64,
-    /// When it was dropped, for a removed row; else 0.
+    /// When it was dropped, for a removed row; otherwise 0.
     pub dtime: u64,
     /// How often it was fetched.
     pub hits: u64,
-    /// Its value, as a look-up answers it.
+    /// Its value, as a look-up returns it.
     pub value: Answer,
 }
 
-/// How far a call came that lists several lists.
+/// How far a call that lists several lists got.
 #[repr(C)]
 #[derive(Clone, Copy)]
 pub struct Listing {
@@ -104,7 +104,7 @@ impl Cache {
     }
 
     /// Fills the slice with the rows of a list, in their order and after the first `skip`: those of
-    /// a slot, or behind the slots the removed rows. It answers how many were written.
+    /// a slot, or after the slots the removed rows. Returns the number that was written.
     pub(crate) fn list_rows(&mut self, slot: u32, skip: u64, out: &mut [ToldRow]) -> u64
         requires stand { StandsForCache self.old }
         ensures same { StandsUnchanged self.old self.new }
@@ -124,7 +124,7 @@ impl Cache {
     }
 
     /// Fills the slice with the rows of the lists from `from` up to `to`, list after list, until
-    /// all rows of one do not fit. What is behind the rows of the lists before it is arbitrary.
+    /// all rows of one do not fit. What follows the rows of the lists before it is arbitrary.
     pub(crate) fn list_slots(&mut self, from: u32, to: u32, out: &mut [ToldRow]) -> Listing
         requires stand { StandsForCache self.old }
         ensures same { StandsUnchanged self.old self.new }
@@ -203,7 +203,7 @@ impl Cache {
         0
     }
 
-    // The place of the row that follows one in its list; 0 at the end.
+    // The place of the row after one in its list; 0 at the end.
     fn after(&mut self, at: u32) -> u32
         requires stand { StandsForCache self.old }
         requires there { has_place at (listed (entries self.old.core.slots)) ≡ true }
@@ -242,7 +242,7 @@ impl Cache {
         }
     }
 
-    // The value of which the image stands at a place.
+    // The value whose image is at a place.
     fn value(&mut self, image: u32) -> Answer
         requires image { (g : List Kind)
             × IsToldImage (cache_words self.old) nothing_aside.windows image g }
@@ -254,7 +254,7 @@ impl Cache {
         value_at(&mut self.words.late, image)
     }
 
-    // The same of a value that is no scalar.
+    // The same for a value that is no scalar.
     pub(crate) fn text(&mut self, image: u32) -> Answer
         requires image { (g : List Kind)
             × IsToldImage (cache_words self.old) nothing_aside.windows image g }
@@ -268,7 +268,7 @@ impl Cache {
     }
 }
 
-// The value of which the image stands at a place.
+// The value whose image is at a place.
 pub(crate) fn value_at<W: WordsIn>(from: &mut W, image: u32) -> Answer
     requires image { (g : List Kind)
         × IsToldImage (W.words from.old) (W.aside from.old).windows image g }
@@ -283,7 +283,7 @@ pub(crate) fn value_at<W: WordsIn>(from: &mut W, image: u32) -> Answer
     }
 }
 
-// The same of a value that is no scalar.
+// The same for a value that is no scalar.
 fn text_at<W: WordsIn>(from: &mut W, image: u32) -> Answer
     requires image { (g : List Kind)
         × IsToldImage (W.words from.old) (W.aside from.old).windows image g }

@@ -1,4 +1,4 @@
-//! Words with seats: places at which it is noted which blocks somebody copies from.
+//! Words with seats, which record the blocks from which callers still copy.
 
 ghost use Rattle.std.specs.Prelude.{◌≡◌, ℕ, ◌+◌, ◌-◌, ◌<◌, ◌≤◌, ◌^◌, true, false, List, drop};
 ghost use Rattle.std.specs.Prelude.{[], replicate, count_by, slice_set, slice_index, map};
@@ -15,7 +15,7 @@ use std::marker::Model;
 /// How many seats there are.
 pub const SEATS: u32 = 64;
 
-/// What is held: for each seat the place of a block or 0, and its image; and where the memory of
+/// What is held: for each seat the place of the block or 0, and its image; and where the memory of
 /// the words begins. It exists only in proofs.
 pub struct Held {
     ghost seats: { List ℕ },
@@ -27,17 +27,17 @@ impl Model for Held {
     ghost also_owns = { λ _. ftrue };
 }
 
-/// Words of which each block that a seat holds is copied by somebody: each seat is a window, which
-/// is met in every event.
+/// Words in which each block that a seat holds is still copied: each seat is a window, which every
+/// event's probes find.
 #[derive(Drop)]
 pub struct SeatWords {
-    /// The words. What is only read is read here, since no window is open on them.
+    /// The words. Reads that write nothing use them directly, since no window is open on them.
     pub(crate) late: LateWords,
     // For each seat the place of the block that it holds, or 0.
     seats: [u32; 64],
-    // Whether one holds a block, so that most probes look at none of them.
+    // Whether one holds a block, so that most probes read none of them.
     some: bool,
-    // The places refused in this event stand from `left` on, the last one first.
+    // The places refused in this event begin at `left`, the last one first.
     left: u32,
     marks: [u32; 64],
     ghost none: { some ≡ false → (at : ℕ) → is_named seats at ≡ false },
@@ -70,7 +70,7 @@ impl SeatWords {
         self.left = 64;
     }
 
-    /// The seat holds the block at `at` from now on, and none for 0.
+    /// The seat holds the block at `at` from now on, or none for 0.
     pub(crate) fn hold(&mut self, seat: u32, at: u32)
         requires { seat < 64 }
         ensures late { self.new.late ≡ self.old.late }
