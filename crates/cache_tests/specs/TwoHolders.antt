@@ -8,11 +8,11 @@ use Rattle.entry_slots.specs.Standing.{entries}
 use Rattle.cache_core.specs.declared.cache.Core.{Core}
 use Rattle.cache_core.specs.CoreCache.{CacheStands}
 
--- a row or a removed row stands at this place, or it is 0
+-- a row or a removed row is at this place, or it is 0
 abbrev pub IsRowsPlace : EntrySlots → ℕ → Type 0
 IsRowsPlace slots at = (at ≡ 0) ⊎ (has_place at (listed (entries slots)) ≡ true)
 
--- the words stand for the cache, and nothing is held for any other worker
+-- the words represent the cache, and nothing is held for any other worker
 pub record HoldsTwo {X : Type 0} (g : Ghosts X (List ℕ)) (core : Core) (words : X) : Type 0 where
   pub stand : CacheStands g core words
   pub others : (i : ℕ) → 2 ≤ i → slice_index (g.rest words) i ≡ 0

@@ -5,7 +5,7 @@ use Rattle.seg_words.specs.Windows.{is_named}
 use Rattle.cache_core.specs.declared.cache.Core.{Core}
 use Rattle.cache_core.specs.CoreCache.{CacheStands}
 
--- the words stand for the cache, nothing is held for any worker, and no window is open
+-- the words represent the cache, nothing is held for any worker, and no window is open
 pub record Rests {X : Type 0} (g : Ghosts X (List ℕ)) (core : Core) (words : X) : Type 0 where
   pub stand : CacheStands g core words
   pub held : g.rest words ≡ replicate 64 0

@@ -1,4 +1,4 @@
-//! Requests, and what each cache answers to them, as a number.
+//! Requests, and the reply of each cache to them, as a number.
 
 ghost use Rattle.std.specs.Prelude.{◌≡◌, ℕ, false, IfOk};
 ghost use Rattle.apcu_model.specs.Sequential.{is_iteration};
@@ -13,7 +13,7 @@ use std::alloc::Global;
 use std::process::Abort;
 use std::test::Fail;
 
-// One segment of so many words, and 32 slots.
+// One segment of `words` words, and 32 slots.
 pub(crate) const fn shape(words: u32, ttl: u32) -> Conf {
     Conf {
         words,
@@ -23,7 +23,7 @@ pub(crate) const fn shape(words: u32, ttl: u32) -> Conf {
     }
 }
 
-// So many words with so many slots, in so many segments.
+// A cache of `words` words, `slots` slots and `segments` segments.
 pub(crate) const fn segments(words: u32, slots: u32, segments: u32) -> Conf {
     Conf {
         words,
@@ -33,14 +33,14 @@ pub(crate) const fn segments(words: u32, slots: u32, segments: u32) -> Conf {
     }
 }
 
-// What is asked under a key.
+// A request under a key.
 #[derive(Clone, Copy)]
 pub(crate) enum Act {
     // stores a number, with a ttl
     Put(i64, u32),
-    // stores a string of so many bytes, with a ttl
+    // stores a string of this many bytes, with a ttl
     Text(usize, u32),
-    // stores a number where no live row has the key
+    // stores a number if no live row has the key
     Add(i64),
     Fetch,
     Exists,
@@ -104,7 +104,7 @@ pub(crate) fn flag(flag: bool) -> Option<i64> {
     Some(i64::from(flag))
 }
 
-// The number that a value is; -1 stands for another value.
+// The number that a value is; -1 for any other value.
 fn number_of(value: &Graph) -> i64 {
     if value.places() == 0 {
         return -1;
@@ -123,7 +123,7 @@ fn found_by(look: Look) -> Option<i64> {
     }
 }
 
-// What the plain cache answered.
+// The reply of the plain cache.
 pub(crate) fn number_in(reply: &Reply) -> Option<i64> {
     match reply {
         Reply::Flag(is_done) => flag(*is_done),
@@ -133,7 +133,7 @@ pub(crate) fn number_in(reply: &Reply) -> Option<i64> {
     }
 }
 
-// What the cache over words answers, but to counters.
+// The reply of the cache over words, except of counters.
 pub(crate) fn answer_of<S: Segment>(
     core: &mut Core,
     words: &mut S,

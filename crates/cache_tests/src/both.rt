@@ -1,4 +1,4 @@
-//! The cache over words and the plain one, of which the same is asked.
+//! The cache over words and the plain one, with the same requests.
 
 ghost use Rattle.std.specs.Prelude.{◌≡◌, false};
 ghost use Rattle.apcu_model.specs.Sequential.{is_iteration};
@@ -13,7 +13,7 @@ use std::alloc::{AllocError, Global};
 use std::process::Abort;
 use std::test::Fail;
 
-// What the plain cache tells.
+// The text of the plain cache's reply.
 fn told_plainly(plain: &mut Plain, request: &Request, t: u64) -> Result<Option<Graph>, AllocError>
     requires plain { is_iteration request.now ≡ false }
 {
@@ -50,7 +50,7 @@ impl Both {
         })
     }
 
-    // Both do it. They answer the same, and count the same.
+    // Makes the request to both. They reply the same, and count the same.
     pub(crate) fn ask(
         &mut self,
         rt: &impl Abort,
@@ -68,7 +68,7 @@ impl Both {
         Ok(answer)
     }
 
-    // Both tell the same. Its text.
+    // Makes the request to both, and returns the text of their reply, which is the same.
     pub(crate) fn tell(
         &mut self,
         rt: &impl Abort,

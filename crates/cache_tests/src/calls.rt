@@ -1,4 +1,4 @@
-//! Calls and their answers.
+//! Calls and their results.
 
 use crate::values::{Inner, Value};
 use apcu_model::Counts;
@@ -7,7 +7,7 @@ use counter_entry::Fate;
 // A call of the cache alone, under a key.
 #[derive(Clone, Copy)]
 pub(crate) enum Act {
-    // with a ttl; the flag tells whether a live row stays
+    // with a ttl; the flag is whether a live row stays
     Store(Value, u32, bool),
     Fetch,
     Exists,
@@ -23,7 +23,7 @@ pub(crate) enum Call {
     Inc(i64, u32),
     // from an integer to another
     Cas(i64, i64),
-    // round other entries, round a literal
+    // around other entries, around a literal
     Entry(Inner, Value),
     Counts,
 }
@@ -33,7 +33,7 @@ pub(crate) const fn put(value: Value, ttl: u32) -> Call {
     Call::Core(Act::Store(value, ttl, false))
 }
 
-// The same where no live row stands.
+// The same if there is no live row.
 pub(crate) const fn add(value: Value) -> Call {
     Call::Core(Act::Store(value, 0, true))
 }
@@ -51,9 +51,9 @@ pub(crate) const CLEAR: Call = Call::Core(Act::Clear);
 #[derive(Clone, Copy, Debug, PartialEq, Eq)]
 pub(crate) enum Answer {
     Flag(bool),
-    // the number that was found or counted; -1 stands for another value
+    // the number that was found or counted; -1 for any other value
     Number(Option<i64>),
-    // the number, or below 0 the length of the text, and where it came from
+    // the number, or below 0 the length of the text, and how it was found
     Gave(i64, Fate),
     Counts(Counts),
 }
@@ -64,7 +64,7 @@ pub(crate) const NO: Answer = Answer::Flag(false);
 
 pub(crate) const NONE: Answer = Answer::Number(None);
 
-// It is found, or counted to.
+// It is found, or the result of counting.
 pub(crate) const fn number(n: i64) -> Answer {
     Answer::Number(Some(n))
 }

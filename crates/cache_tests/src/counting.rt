@@ -1,4 +1,4 @@
-//! Counters, integers that are set, and values by generators.
+//! Counters, integers that are set, and values of generators.
 
 use crate::calls::{Answer, Call, DELETE, EXISTS, FETCH, NO, NONE, ONE, YES, counts, number, put};
 use crate::draws::Kinds;
@@ -7,8 +7,8 @@ use crate::values::{Inner, Value};
 use counter_entry::Fate;
 use std::test::Fail;
 
-// A sum wraps in 64 bits. What is no integer is not counted with. A key without a live row counts
-// from 0, and a row that is there keeps its time to live.
+// A sum wraps in 64 bits. A value that is no integer is not counted. A key without a live row
+// counts from 0, and an existing row keeps its time to live.
 #[test]
 fn counts_by_steps(rt: HostRuntime) -> Result<(), Fail> {
     play(
@@ -103,7 +103,7 @@ fn gives_by_generators(rt: HostRuntime) -> Result<(), Fail> {
     )
 }
 
-// A literal that cannot fit is given all the same, and stored nowhere.
+// A literal that cannot fit is returned all the same, and stored nowhere.
 #[test]
 fn gives_what_is_too_large(rt: HostRuntime) -> Result<(), Fail> {
     play(
@@ -131,7 +131,7 @@ fn gives_what_is_too_large(rt: HostRuntime) -> Result<(), Fail> {
     )
 }
 
-// The plain cache is the judge of thousands of calls.
+// Thousands of calls, judged by the plain cache.
 #[test]
 fn answers_as_the_plain_cache(rt: HostRuntime) -> Result<(), Fail> {
     many(&rt, rt.alloc(), 512, 0, Kinds::All)?;

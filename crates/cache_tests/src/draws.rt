@@ -1,9 +1,9 @@
-//! Calls as they come.
+//! Random calls.
 
 use crate::calls::{Act, Call, DELETE, FETCH, put};
 use crate::values::{Inner, Value};
 
-// The calls that come.
+// Which calls are drawn.
 #[derive(Clone, Copy)]
 pub(crate) enum Kinds {
     // those of the cache alone, under forty keys
@@ -12,7 +12,7 @@ pub(crate) enum Kinds {
     All,
 }
 
-// A moment, and a number that looks like any other.
+// A moment, and a pseudo-random number.
 #[derive(Clone, Copy)]
 pub(crate) struct Draw {
     pub(crate) t: u64,
@@ -79,7 +79,7 @@ impl Draw {
         }
     }
 
-    // A call on numbers so small that they meet.
+    // A call on numbers so small that they collide.
     fn count(self) -> Call {
         let bits = self.bits;
         let ttl = ((bits >> 50) % 6) as u32;
@@ -94,7 +94,7 @@ impl Draw {
         }
     }
 
-    // An entry of a key with this number round others of other numbers.
+    // An entry of a key with this number around others of other numbers.
     fn entry(self, name: u8) -> Call {
         let bits = self.bits;
         let second = (name % 20 + 1 + ((bits >> 8) % 19) as u8) % 20;

@@ -1,4 +1,4 @@
-//! The cache over words of which blocks are held for workers, as copies under way hold them.
+//! The cache over words of which blocks are held for workers, as by copies in progress.
 
 ghost use Rattle.std.specs.Prelude.{◌≡◌, ◌⊎◌, ℕ, ◌%◌, ◌<◌, ◌≤◌, ◌^◌, true, false, length};
 ghost use Rattle.apcu_model.specs.Conf.{IsUsable};
@@ -20,7 +20,7 @@ use seg_words::{HeldWords, Segment, WordsIn};
 use std::alloc::{AllocError, Global};
 use std::marker::Model;
 
-// Whether the row of the key, or a removed row, stands at a place.
+// Whether the row of the key, or a removed row, is at a place.
 fn stands_at<S: Segment>(slots: &EntrySlots, words: &mut S, key: &[u8], at: u32) -> bool
     requires short { length key.now < 2 ^ 32 }
     requires stand { Stand S.WordsIn slots.now words.old }
@@ -44,7 +44,7 @@ fn stands_at<S: Segment>(slots: &EntrySlots, words: &mut S, key: &[u8], at: u32)
     false
 }
 
-// The place, if the row of the key or a removed row stands there, and else 0.
+// The place, if the row of the key or a removed row is there, and otherwise 0.
 fn there(core: &mut Core, words: &mut HeldWords, key: &[u8], at: u32) -> u32
     requires short { length key.now < 2 ^ 32 }
     requires two { HoldsTwo ⟦<HeldWords as WordsIn>⟧ core.old words.old }
@@ -59,8 +59,8 @@ fn there(core: &mut Core, words: &mut HeldWords, key: &[u8], at: u32) -> u32
     }
 }
 
-// Begins an event that meets the workers of the mask. For the workers 0 and 1 the blocks at these
-// places are held, or nothing for 0.
+// Begins an event with this mask. For the workers 0 and 1 the blocks at these places are held, or
+// nothing for 0.
 fn begin_with(core: &Core, words: &mut HeldWords, mask: u64, first: u32, second: u32)
     requires two { HoldsTwo ⟦<HeldWords as WordsIn>⟧ core.now words.old }
     requires first { IsRowsPlace core.now.slots first }
@@ -135,7 +135,7 @@ impl Held {
         self.core.slots().first_removed()
     }
 
-    // What is answered in an event that meets the workers of the mask.
+    // The reply in an event with this mask.
     pub(crate) fn event(
         &mut self,
         copies: &Copies,

@@ -1,4 +1,4 @@
-//! Requests as they come.
+//! Random requests.
 
 ghost use Rattle.std.specs.Prelude.{◌<◌};
 
@@ -9,7 +9,7 @@ pub(crate) const fn key(name: u8) -> [u8; 3] {
     [b'k', b'0' + name / 10 % 10, b'0' + name % 10]
 }
 
-// A moment, and a number that looks like any other.
+// A moment, and a pseudo-random number.
 #[derive(Clone, Copy)]
 pub(crate) struct Draw {
     pub(crate) t: u64,
@@ -43,7 +43,7 @@ impl Draw {
         self.bits.wrapping_shr(from) % 65_536
     }
 
-    // What the cache does by itself.
+    // A request of the cache's own.
     pub(crate) fn act(self) -> Act {
         let ttl = (self.part(48) % 6) as u32;
         match self.part(20) % 16 {
@@ -61,7 +61,7 @@ impl Draw {
         }
     }
 
-    // And what is done to numbers so small that they meet.
+    // And one on numbers so small that they collide.
     pub(crate) fn count(self) -> Act {
         let small = (self.part(30) % 4) as i64;
         match self.part(20) % 16 {

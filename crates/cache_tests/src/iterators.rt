@@ -1,4 +1,4 @@
-//! Steps and totals of iterators, what they delete, and what they search for.
+//! Steps and totals of iterators, their deletions, and their searches.
 
 use crate::pair::shape;
 use crate::small::Small;
@@ -40,7 +40,7 @@ fn three(alloc: Global) -> Result<Small, Fail> {
     Ok(small)
 }
 
-// What a step gave: the slot behind it, how many items, and the key of the first one.
+// The result of a step: the slot after it, the number of items, and the key of the first one.
 #[derive(Clone, Copy, Debug, PartialEq, Eq)]
 struct Step {
     next: u32,
@@ -74,7 +74,7 @@ fn one_step(
     Some(step_of(&chunk))
 }
 
-// How a step's size, where it begins, and the pattern tell on the step.
+// How a step's size, its first slot and the pattern affect the step.
 #[test]
 fn takes_the_fewest_slots(rt: HostRuntime) -> Result<(), Fail> {
     let alloc = rt.alloc();
@@ -97,7 +97,7 @@ fn takes_the_fewest_slots(rt: HostRuntime) -> Result<(), Fail> {
     Ok(())
 }
 
-// What is told of the first item of a step.
+// The first item of a step.
 #[derive(Clone, Copy, Debug, PartialEq, Eq)]
 struct Told {
     has_value: bool,
@@ -118,7 +118,7 @@ fn told_of(chunk: &Chunk) -> Option<Told> {
     })
 }
 
-// What is told at a moment of a row that was stored with ten seconds to live.
+// The item at a moment of a row that was stored with ten seconds to live.
 fn told_at(
     alloc: Global,
     small: &mut Small,
@@ -131,8 +131,7 @@ fn told_at(
     told_of(&chunk)
 }
 
-// What is noted of a row is told, its value where it is asked for. A row whose own time is over is
-// left out.
+// An item has the row's information, and its value if it is selected. An expired row is skipped.
 #[test]
 fn tells_what_is_asked(rt: HostRuntime) -> Result<(), Fail> {
     let alloc = rt.alloc();
@@ -164,7 +163,7 @@ fn tells_what_is_asked(rt: HostRuntime) -> Result<(), Fail> {
     Ok(())
 }
 
-// Deletes what a pattern matches, in two steps; what the rows come to before it and after it.
+// Deletes what a pattern matches, in two steps; the totals of the rows before it and after it.
 #[test]
 fn deletes_what_matches(rt: HostRuntime) -> Result<(), Fail> {
     let alloc = rt.alloc();

@@ -1,4 +1,4 @@
-//! The map while removed rows stand in it: their blocks are held, as by a copy under way, when the
+//! The map while it has removed rows: their blocks are held, as by a copy in progress, when the
 //! rows are dropped, and stay until a store sweeps them.
 
 ghost use Rattle.std.specs.Prelude.{◌≡◌, ℕ, ◌<◌, ◌^◌, true, false, length, replicate, slice_set};
@@ -25,7 +25,7 @@ use std::marker::Model;
 use std::process::Abort;
 use std::test::Fail;
 
-// Begins an event that meets the worker 0, who may still copy from the block at this place.
+// Begins an event whose mask is worker 0, which may still copy from the block at this place.
 fn begin_held(core: &Core, words: &mut HeldWords, at: u32)
     requires rests { Rests ⟦<HeldWords as WordsIn>⟧ core.now words.old }
     requires there { has_place at (listed (entries core.now.slots)) ≡ true }
@@ -39,7 +39,7 @@ fn begin_held(core: &Core, words: &mut HeldWords, at: u32)
     words.begin(1);
 }
 
-// Begins an event that meets nobody. Before it the block at this place was held, or none for 0.
+// Begins an event with an empty mask. Before it the block at this place was held, or none for 0.
 fn begin_free(core: &Core, words: &mut HeldWords, at: u32)
     requires stand { CacheStands ⟦<HeldWords as WordsIn>⟧ core.now words.old }
     requires held { ⟦<HeldWords as WordsIn>⟧.rest words.old ≡ slice_set (replicate 64 0) 0 at }
@@ -126,10 +126,10 @@ impl Held {
     }
 }
 
-// What is done under a key of one letter.
+// An action under a key of one letter.
 #[derive(Clone, Copy)]
 enum Act {
-    // stores a string of so many bytes
+    // stores a string of this many bytes
     Put(u8, usize),
     // the same, while the row that the key has is copied
     ReplaceHeld(u8, usize),
@@ -153,7 +153,7 @@ fn is_done(rt: &impl Abort, alloc: Global, held: &mut Held, act: Act) -> Result<
     }
 }
 
-// The map after what was done, and how many blocks of 16 words fit.
+// The map after these actions, and how many blocks of 16 words fit.
 fn tells(rt: &impl Abort, alloc: Global, acts: &[Act], map: &str, fits: u32) -> Result<(), Fail> {
     assert!(rt; ONE.usable());
     let mut held = Held::new(alloc, &ONE)?;
@@ -167,8 +167,8 @@ fn tells(rt: &impl Abort, alloc: Global, acts: &[Act], map: &str, fits: u32) -> 
     Ok(())
 }
 
-// A row that was replaced, and two that were deleted, the higher one first. They stand by rising
-// place, and none of their words is free.
+// A row that was replaced, and two that were deleted, the higher one first. The map has them by
+// rising place, and none of their words is free.
 const DROPPED: &[Act] = &[
     Act::Put(b'a', 1168),
     Act::Put(b'b', 1),
@@ -186,7 +186,7 @@ fn removed_rows_by_rising_place(rt: HostRuntime) -> Result<(), Fail> {
     tells(&rt, rt.alloc(), DROPPED, map, 8)
 }
 
-// What was not held is free at once, so the removed row stands between two gaps.
+// What was not held is free at once, so the removed row is between two gaps.
 #[test]
 fn a_removed_row_between_gaps(rt: HostRuntime) -> Result<(), Fail> {
     const ACTS: &[Act] = &[
@@ -202,7 +202,7 @@ fn a_removed_row_between_gaps(rt: HostRuntime) -> Result<(), Fail> {
     tells(&rt, rt.alloc(), ACTS, map, 29)
 }
 
-// The next store sweeps the removed rows, and takes the least place.
+// The next store sweeps the removed rows, and takes the lowest place.
 #[test]
 fn swept_rows_are_free(rt: HostRuntime) -> Result<(), Fail> {
     let alloc = rt.alloc();

@@ -8,10 +8,10 @@ use std::alloc::Global;
 use std::process::Abort;
 use std::test::Fail;
 
-// What is done under a key of one letter.
+// An action under a key of one letter.
 #[derive(Clone, Copy)]
 enum Act {
-    // stores a string of so many bytes
+    // stores a string of this many bytes
     Put(u8, usize),
     Delete(u8),
 }
@@ -29,7 +29,7 @@ fn play(rt: &impl Abort, alloc: Global, small: &mut Small, acts: &[Act]) -> Resu
     Ok(())
 }
 
-// The map after what was done, and how many blocks of 16 words fit.
+// The map after these actions, and how many blocks of 16 words fit.
 fn tells(
     rt: &impl Abort,
     alloc: Global,
@@ -94,7 +94,7 @@ fn a_full_cache_has_no_line_of_fits(rt: HostRuntime) -> Result<(), Fail> {
     tells(&rt, rt.alloc(), &ONE, ACTS, map, 0)
 }
 
-// A run ends at a border of segments, and what is left of each is counted by itself.
+// A run ends at a border of segments, and what is left of each is counted separately.
 #[test]
 fn two_segments_have_two_runs(rt: HostRuntime) -> Result<(), Fail> {
     const TWO: Conf = Conf {

@@ -1,4 +1,4 @@
-//! A play whose events meet nobody, and the plain cache, of which the same is asked.
+//! A play whose events have empty masks, and the plain cache, with the same requests.
 
 use crate::mark_requests::{Act, request_of};
 use crate::marks::{Event, Table};
@@ -8,7 +8,7 @@ use std::alloc::Global;
 use std::process::Abort;
 use std::test::Fail;
 
-// Whether two answers are the same.
+// Whether two replies are the same.
 fn is_same(one: &Reply, other: &Reply) -> bool {
     match (one, other) {
         (Reply::Flag(a), Reply::Flag(b)) => *a == *b,
@@ -41,7 +41,7 @@ impl Both {
         })
     }
 
-    // Both are asked under a key at a moment. They answer the same.
+    // Makes a request under a key at a moment to both. They reply the same.
     pub(crate) fn ask(
         &mut self,
         rt: &impl Abort,

@@ -1,4 +1,4 @@
-//! Requests of events as they come.
+//! Random requests of events.
 
 ghost use Rattle.std.specs.Prelude.{◌<◌};
 
@@ -12,7 +12,7 @@ fn part(draw: Draw, from: u32) -> u64
     draw.bits.wrapping_shr(from) % 65_536
 }
 
-// What is asked.
+// The request.
 pub(crate) fn act_of(draw: Draw) -> Act {
     let ttl = (part(draw, 48) % 6) as u32;
     let n = (part(draw, 30) % 4) as i64;

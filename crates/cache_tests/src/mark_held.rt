@@ -7,7 +7,7 @@ use std::alloc::Global;
 use std::process::Abort;
 use std::test::Fail;
 
-// So many words, of which 32 are slots.
+// This many words, of which 32 are slots.
 fn shape(words: u32) -> Conf {
     Conf {
         words,
@@ -16,8 +16,7 @@ fn shape(words: u32) -> Conf {
     }
 }
 
-// Who asks, whom it meets, under which key and what, and what is answered: whether it was done, or
-// found.
+// The worker, its mask, the key, the request, and the reply: whether it was done, or found.
 type Row = (u32, u64, u8, Act, bool);
 
 fn is_yes(reply: &Reply) -> bool {
@@ -42,8 +41,8 @@ fn play(rt: &impl Abort, alloc: Global, table: &mut Table, rows: &[Row]) -> Resu
     Ok(())
 }
 
-// A removed row keeps its block in the events that meet its copier. In one that does not, the block
-// is free.
+// A removed row keeps its block in the events whose mask has its copier. In one whose mask has not,
+// the block is freed.
 #[test]
 fn keeps_what_is_copied(rt: HostRuntime) -> Result<(), Fail> {
     const HELD: [Row; 4] = [
@@ -86,7 +85,7 @@ fn keeps_what_a_walk_deletes(rt: HostRuntime) -> Result<(), Fail> {
     Ok(())
 }
 
-// The row that a copier found is gone, and another row has its key and its place: it is not held.
+// The row that a copier found was freed, and another row has its key and its place: it is not held.
 #[test]
 fn holds_no_other_row(rt: HostRuntime) -> Result<(), Fail> {
     const ROWS: [Row; 5] = [
@@ -104,8 +103,8 @@ fn holds_no_other_row(rt: HostRuntime) -> Result<(), Fail> {
     Ok(())
 }
 
-// Of so many workers, whether the mask is legal for an event of one. The worker 1 copies a string,
-// the worker 2 has fetched a number, and the worker 3 has found nothing.
+// With this many workers, whether the mask is legal for an event of one. The worker 1 copies a
+// string, the worker 2 has fetched a number, and the worker 3 has found nothing.
 #[test]
 fn tells_which_masks_are_legal(rt: HostRuntime) -> Result<(), Fail> {
     const ROWS: [Row; 5] = [

@@ -1,5 +1,4 @@
-//! Requests of several workers as they come, in events that meet nobody. The plain cache is the
-//! judge.
+//! Random requests of several workers, in events with empty masks, judged by the plain cache.
 
 use crate::draws::{Draw, Kinds};
 use crate::mark_both::Both;
@@ -19,7 +18,7 @@ fn shape(words: u32, ttl: u32, segments: u32) -> Conf {
     }
 }
 
-// Each kind of request that both know, once.
+// Each kind of request that both support, once.
 const KINDS: [Act; 14] = [
     Act::Text(100, 0),
     Act::Put(7, 5),
@@ -46,7 +45,7 @@ fn answers_each_kind(rt: HostRuntime) -> Result<(), Fail> {
     Ok(())
 }
 
-// So many requests, and then all that is told.
+// This many requests, and then all information.
 fn many(rt: &impl Abort, alloc: Global, conf: &Conf, requests: u32) -> Result<(), Fail> {
     let mut both = Both::new(rt, alloc, conf)?;
     let mut draw = Draw::new(u64::from(conf.ttl).wrapping_add(11));

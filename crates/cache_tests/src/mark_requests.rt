@@ -1,4 +1,4 @@
-//! What events of marks ask.
+//! The requests of events of marks.
 
 ghost use Rattle.std.specs.Prelude.{◌≡◌, ◌≤◌, false, length, IfOk};
 ghost use Rattle.apcu_model.specs.Levels.{most_levels};
@@ -12,14 +12,14 @@ use std::boxed::Box;
 use std::process::Abort;
 use std::test::Fail;
 
-// What is asked under a key.
+// A request under a key.
 #[derive(Clone, Copy)]
 pub(crate) enum Act {
     // stores a number, with a ttl
     Put(i64, u32),
-    // stores a string of so many bytes, with a ttl
+    // stores a string of this many bytes, with a ttl
     Text(usize, u32),
-    // stores a number where no live row has the key
+    // stores a number if no live row has the key
     Add(i64),
     Fetch,
     Exists,
@@ -28,7 +28,7 @@ pub(crate) enum Act {
     Inc(i64, u32),
     // from an integer to another
     Cas(i64, i64),
-    // the number, where no row is found
+    // the number, if no row is found
     Entry(i64, u32),
     Clear,
     KeyInfo,
@@ -48,7 +48,7 @@ fn store(key: Bytes, value: Graph, ttl: u32, exclusive: bool) -> Request
     }
 }
 
-// What is asked, if it is none of an iterator.
+// The request, if it is none of an iterator.
 pub(crate) fn request_of(
     rt: &impl Abort,
     alloc: Global,

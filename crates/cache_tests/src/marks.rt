@@ -11,7 +11,7 @@ use std::alloc::Global;
 use std::process::Abort;
 use std::test::Fail;
 
-// An event: its worker, the workers that it meets, and its moment.
+// An event: its worker, its mask, and its moment.
 #[derive(Clone, Copy)]
 pub(crate) struct Event {
     pub(crate) worker: u32,
@@ -22,7 +22,7 @@ pub(crate) struct Event {
 // How many events a table can play.
 const MOST: u32 = 20_000;
 
-// The play on a cache of this shape, and how many more events it can play. What walks search for is
+// The play on a cache of this shape, and how many more events it can play. The search of walks has
 // no pattern.
 pub(crate) struct Table {
     alloc: Global,
@@ -62,12 +62,12 @@ impl Table {
         })
     }
 
-    // Whether the mask is legal for an event of one of so many workers.
+    // Whether the mask is legal for an event of one of this many workers.
     pub(crate) fn is_legal(&self, workers: u32, worker: u32, mask: u64) -> bool {
         self.replay.is_legal(workers, worker, mask)
     }
 
-    // The answer to what is asked in an event.
+    // The reply to the request of an event.
     fn play(&mut self, rt: &impl Abort, event: Event, ask: Ask<'_>) -> Result<Reply, Fail>
         requires may { MayBeAsked self.old.conf self.old.search (asked ask) }
     {
@@ -80,7 +80,7 @@ impl Table {
         Ok(reply)
     }
 
-    // How many removed rows there are, told in an event of the worker 0 that meets nobody.
+    // The number of removed rows, found in an event of the worker 0 with an empty mask.
     pub(crate) fn removed(&mut self, rt: &impl Abort) -> Result<u32, Fail> {
         let event = Event {
             worker: 0,
@@ -119,7 +119,8 @@ impl Table {
         Ok((chunk.items.len(), count))
     }
 
-    // Deletes what a walk from the first slot on finds, at least so many rows. The slot behind it.
+    // Deletes what a walk from the first slot on finds, at least this many rows. Returns the slot
+    // after it.
     pub(crate) fn delete_from(
         &mut self,
         rt: &impl Abort,
@@ -137,7 +138,7 @@ impl Table {
         }
     }
 
-    // The answer to a request, if it is none of an iterator.
+    // The reply to a request, if it is none of an iterator.
     pub(crate) fn ask(
         &mut self,
         rt: &impl Abort,

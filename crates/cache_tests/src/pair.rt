@@ -1,4 +1,4 @@
-//! The cache over words and the plain one, which are asked the same.
+//! The cache over words and the plain one, with the same calls.
 
 ghost use Rattle.std.specs.Prelude.{◌≡◌, ◌%◌, ◌≤◌};
 ghost use Rattle.apcu_model.specs.Conf.{IsUsable};
@@ -36,7 +36,7 @@ pub(crate) struct Pair {
 }
 
 impl Pair {
-    // Caches of so many words with this limit.
+    // Caches of this many words with this ttl.
     pub(crate) fn new(alloc: Global, words: u32, ttl: u32) -> Result<Pair, Fail>
         requires even { (words % 2 ≡ 0) × (512 ≤ words) × (words ≤ 65536) }
     {
@@ -48,7 +48,7 @@ impl Pair {
         })
     }
 
-    // Both do it. They answer the same, and count the same.
+    // Both do it. They return the same, and count the same.
     pub(crate) fn ask(
         &mut self,
         rt: &impl Abort,
@@ -65,7 +65,7 @@ impl Pair {
         Ok(answer)
     }
 
-    // The calls in turn at their times, under the keys of these numbers, with what both answer.
+    // The calls in turn at their times, under the keys of these numbers, with the result of both.
     pub(crate) fn play(
         &mut self,
         rt: &impl Abort,
@@ -78,7 +78,7 @@ impl Pair {
         Ok(())
     }
 
-    // A call under each key from the one number to the other, with what both answer each time.
+    // A call under each key from one number to the other, with the result of both each time.
     pub(crate) fn each(
         &mut self,
         rt: &impl Abort,
@@ -94,7 +94,7 @@ impl Pair {
     }
 }
 
-// The calls in turn, in new caches of 512 words with this limit.
+// The calls in turn, in new caches of 512 words with this ttl.
 pub(crate) fn play(
     rt: &impl Abort,
     alloc: Global,
@@ -104,7 +104,7 @@ pub(crate) fn play(
     Pair::new(alloc, 512, limit)?.play(rt, rows)
 }
 
-// Thousands of calls as they come, in new caches of this shape.
+// Thousands of random calls, in new caches of this shape.
 pub(crate) fn many(
     rt: &impl Abort,
     alloc: Global,

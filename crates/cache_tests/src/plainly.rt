@@ -1,4 +1,4 @@
-//! What the plain cache does.
+//! The calls of the plain cache.
 
 use crate::calls::{Act, Answer, Call};
 use crate::values::{generator_of, number_of, told, value_of};
@@ -10,7 +10,7 @@ use std::alloc::Global;
 use std::process::Abort;
 use std::test::Fail;
 
-// What it gives by a generator of which no key stands twice.
+// The value of a generator in which no key occurs twice.
 fn given(
     rt: &impl Abort,
     plain: &mut Plain,

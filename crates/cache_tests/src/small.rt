@@ -1,4 +1,4 @@
-//! What the cache over words does, and what iterators give of it.
+//! The calls of the cache over words, and the items of its iterators.
 
 ghost use Rattle.std.specs.Prelude.{◌≡◌, ℕ, ◌≤◌, false, length};
 ghost use Rattle.apcu_model.specs.Conf.{IsUsable};
@@ -36,7 +36,7 @@ fn counted(answer: IncAnswer) -> Option<i64> {
     }
 }
 
-// A call of the cache alone. A text is stored from its bytes, and no graph is made of it.
+// A call of the cache alone. A string is stored from its bytes, without a graph.
 pub(crate) fn answer_of<S: Segment>(
     rt: &impl Abort,
     alloc: Global,
@@ -150,7 +150,7 @@ impl Small {
         }
     }
 
-    // Stores the integer 1 under a key of one byte; whether it was stored.
+    // Stores the integer 1 under a key of one byte, and returns whether it was stored.
     pub(crate) fn store(&mut self, alloc: Global, key: u8, ttl: u32) -> bool {
         let value = integer(alloc, 1);
         let words = &mut self.words;
@@ -194,7 +194,7 @@ impl Small {
         chunk_delete(alloc, core, words, search, from, size, t).ok()
     }
 
-    // What the rows of a list come to.
+    // The totals of the rows of a list.
     pub(crate) fn totals(&mut self, search: &mut Search, list: List) -> Option<(u64, u64, u64)> {
         totals(&mut self.core, &mut self.words, search, list, STORED).ok()
     }

@@ -81,7 +81,7 @@ fn expires(rt: HostRuntime) -> Result<(), Fail> {
     )
 }
 
-// Two blocks that are given back beside each other are one gap, whichever of them goes first.
+// Two adjacent blocks that are freed become one gap, whichever is freed first.
 #[test]
 fn merges_gaps(rt: HostRuntime) -> Result<(), Fail> {
     for (first, second) in [(1, 2), (2, 1)] {
@@ -104,7 +104,7 @@ fn merges_gaps(rt: HostRuntime) -> Result<(), Fail> {
     Ok(())
 }
 
-// The plain cache is the judge of thousands of calls.
+// Thousands of calls, judged by the plain cache.
 #[test]
 fn answers_as_the_plain_cache(rt: HostRuntime) -> Result<(), Fail> {
     many(&rt, rt.alloc(), 512, 0, Kinds::Core)?;

@@ -1,4 +1,4 @@
-//! What is told of a key, of the cache and of its segment.
+//! Information about a key, the cache and its segment.
 
 ghost use Rattle.std.specs.Prelude.{◌≡◌, false, IfOk};
 ghost use Rattle.apcu_model.specs.Sequential.{is_iteration};
@@ -13,7 +13,7 @@ use std::alloc::Global;
 use std::process::Abort;
 use std::test::Fail;
 
-// What is asked at its time under a key, with what both answer.
+// A request at its time under a key, with the result of both.
 type Row<'a> = (u64, &'a [u8], Act, Option<i64>);
 
 fn play(rt: &impl Abort, both: &mut Both, rows: &[Row<'_>]) -> Result<(), Fail> {
@@ -24,7 +24,7 @@ fn play(rt: &impl Abort, both: &mut Both, rows: &[Row<'_>]) -> Result<(), Fail> 
     Ok(())
 }
 
-// What is told: of a key at a moment, of the cache, or of the segment; the flag is for less of it.
+// The information: about a key at a moment, the cache, or the segment; the flag is for less of it.
 #[derive(Clone, Copy)]
 enum Told<'a> {
     Key(&'a [u8], u64),
@@ -32,7 +32,7 @@ enum Told<'a> {
     Segment(bool),
 }
 
-// What is asked for it, and when.
+// The request for it, and its moment.
 fn asked(rt: &impl Abort, alloc: Global, what: Told<'_>) -> Result<(Request, u64), Fail>
     ensures { IfOk result (λ asked. is_iteration asked.0 ≡ false) }
 {
@@ -64,7 +64,7 @@ fn reads(rt: &impl Abort, told: &ByteOut, parts: &[&str]) {
     assert!(rt; left.is_empty());
 }
 
-// A text that is told, in parts.
+// The text of a reply, in parts.
 type Text = (Told<'static>, &'static [&'static str]);
 
 fn tell_all(rt: &impl Abort, alloc: Global, both: &mut Both, texts: &[Text]) -> Result<(), Fail> {
@@ -75,7 +75,7 @@ fn tell_all(rt: &impl Abort, alloc: Global, both: &mut Both, texts: &[Text]) -> 
     Ok(())
 }
 
-// What both tell after these rows, in new caches of this shape.
+// The reply of both after these rows, in new caches of this shape.
 fn told_after(
     rt: &impl Abort,
     alloc: Global,
@@ -100,7 +100,7 @@ fn put_each(rt: &impl Abort, both: &mut Both, each: Each) -> Result<(), Fail> {
     Ok(())
 }
 
-// The same after these, in 512 words with this limit.
+// The same after these, in 512 words with this ttl.
 fn told_after_each(
     rt: &impl Abort,
     alloc: Global,
@@ -115,7 +115,7 @@ fn told_after_each(
     tell_all(rt, alloc, &mut both, texts)
 }
 
-// A row that was fetched, and a key without a row; a row whose time is over is not told.
+// A row that was fetched, a key without a row, and an expired row, which is not found.
 #[test]
 fn tells_of_a_key(rt: HostRuntime) -> Result<(), Fail> {
     const TEXTS: &[Text] = &[
@@ -141,7 +141,7 @@ fn tells_of_a_key(rt: HostRuntime) -> Result<(), Fail> {
     )
 }
 
-// Two words more than a good shape has. The plain cache would look at each of them to tell its gaps.
+// Two words more than a valid shape has. The plain cache would read each of them to list its gaps.
 #[test]
 fn tells_of_more_words_than_are_good(rt: HostRuntime) -> Result<(), Fail> {
     const TEXTS: &[Text] = &[(
@@ -166,7 +166,7 @@ fn tells_of_more_words_than_are_good(rt: HostRuntime) -> Result<(), Fail> {
     )
 }
 
-// Thirty rows fill the segment, and one more needs all of them to go.
+// Thirty rows fill the segment, and one more requires that all of them are dropped.
 #[test]
 fn tells_of_a_cache_after_an_expunge(rt: HostRuntime) -> Result<(), Fail> {
     const TEXTS: &[Text] = &[
@@ -190,7 +190,7 @@ fn tells_of_a_cache_after_an_expunge(rt: HostRuntime) -> Result<(), Fail> {
     told_after_each(&rt, rt.alloc(), 0, &[((1, 31), 100, 0)], TEXTS)
 }
 
-// Where one row's time is over, it goes alone; the segment is full again.
+// If one row has expired, only that one is dropped; the segment is full again.
 #[test]
 fn tells_of_a_cache_without_an_expunge(rt: HostRuntime) -> Result<(), Fail> {
     const TEXTS: &[Text] = &[
@@ -219,7 +219,7 @@ fn tells_of_a_cache_without_an_expunge(rt: HostRuntime) -> Result<(), Fail> {
     )
 }
 
-// Rows come by slot and place, those whose time is over too; gaps by rising place.
+// Rows come by slot and place, expired ones included; gaps by rising place.
 #[test]
 fn lists_rows_and_gaps(rt: HostRuntime) -> Result<(), Fail> {
     const TEXTS: &[Text] = &[
@@ -270,7 +270,7 @@ fn lists_rows_and_gaps(rt: HostRuntime) -> Result<(), Fail> {
     )
 }
 
-// Something is told by both, as the draw has it.
+// Compares information about both, as the draw selects.
 fn tell_drawn(rt: &impl Abort, alloc: Global, both: &mut Both, draw: Draw) -> Result<(), Fail> {
     let key = key(draw.name() % 20);
     let what = match (draw.bits >> 40) % 8 {
@@ -283,7 +283,7 @@ fn tell_drawn(rt: &impl Abort, alloc: Global, both: &mut Both, draw: Draw) -> Re
     Ok(())
 }
 
-// So many requests as they come, between which something is told.
+// This many random requests, between which information is compared.
 fn tell_many(rt: &impl Abort, alloc: Global, conf: &Conf, requests: u32) -> Result<(), Fail> {
     let mut both = Both::new(rt, alloc, conf)?;
     let mut draw = Draw::new(7);
@@ -295,7 +295,7 @@ fn tell_many(rt: &impl Abort, alloc: Global, conf: &Conf, requests: u32) -> Resu
     Ok(())
 }
 
-// The plain cache is the judge of what is told between requests as they come.
+// Information between random requests, judged by the plain cache.
 #[test]
 fn tells_as_the_plain_cache(rt: HostRuntime) -> Result<(), Fail> {
     tell_many(&rt, rt.alloc(), &shape(1_024, 3), 1_000)?;
@@ -313,7 +313,7 @@ fn tells_as_the_plain_cache(rt: HostRuntime) -> Result<(), Fail> {
     Ok(())
 }
 
-// Two segments of 512 words: each has gaps of its own, told by their place in it, and the largest
+// Two segments of 512 words: each has gaps of its own, given by their place in it, and the largest
 // block is as long as a segment.
 #[test]
 fn tells_each_segment(rt: HostRuntime) -> Result<(), Fail> {
@@ -356,7 +356,7 @@ fn tells_each_segment(rt: HostRuntime) -> Result<(), Fail> {
 }
 
 // Two segments of 34 words, of which two are slots. Twice 16 words are free on either side of the
-// border: a row of 16 fits there, and for one of 18 all rows have to go.
+// border: a row of 16 fits there, and for one of 18 all rows have to be dropped.
 #[test]
 fn finds_no_room_over_a_border(rt: HostRuntime) -> Result<(), Fail> {
     const APART: &[Text] = &[(
@@ -409,8 +409,8 @@ fn finds_no_room_over_a_border(rt: HostRuntime) -> Result<(), Fail> {
     tell_all(&rt, rt.alloc(), &mut both, ALONE)
 }
 
-// Beside a row, a text one byte longer than the longest is stored nowhere, and the row stays. The
-// longest is stored, and the row stays where that is in a segment without it.
+// With a row in the cache, a text one byte longer than the longest is not stored, and the row
+// stays. The longest is stored, and the row stays if that is in a segment without it.
 fn take_the_longest(
     rt: &impl Abort,
     alloc: Global,

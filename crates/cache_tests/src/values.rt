@@ -14,7 +14,7 @@ pub(crate) const fn key(name: u8) -> [u8; 3] {
     [b'k', b'0' + name / 10 % 10, b'0' + name % 10]
 }
 
-// The number, or a string of so many bytes.
+// The number, or a string of this many bytes.
 #[derive(Clone, Copy)]
 pub(crate) enum Value {
     Int(i64),
@@ -36,7 +36,7 @@ pub(crate) fn value_of(rt: &impl Abort, alloc: Global, value: Value) -> Result<G
     Ok(builder.seal())
 }
 
-// The number that a value is; -1 stands for another value.
+// The number that a value is; -1 for any other value.
 pub(crate) fn number_of(value: &Graph) -> i64 {
     if value.places() == 0 {
         return -1;
@@ -59,7 +59,7 @@ pub(crate) fn told(value: &Graph) -> i64 {
     }
 }
 
-// The numbers of the keys of two entries inside another, if there are so many, and the ttl of each.
+// The numbers of the keys of two nested entries, if there are any, and the ttl of each.
 #[derive(Clone, Copy)]
 pub(crate) struct Inner {
     pub(crate) second: Option<u8>,
@@ -67,7 +67,7 @@ pub(crate) struct Inner {
     pub(crate) ttl: u32,
 }
 
-// An entry of the key of this number round a generator, if there is a number.
+// An entry of the key of this number around a generator, if there is a number.
 fn round_if(alloc: Global, name: Option<u8>, ttl: u32, generator: Gen) -> Result<Gen, Fail>
     ensures { IfOk result (λ g. length g.levels ≤ length generator.levels + 1) }
 {

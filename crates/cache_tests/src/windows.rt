@@ -1,4 +1,4 @@
-//! What is asked of the cache of which blocks are held, and of the plain cache beside it.
+//! Requests to a cache of which blocks are held, and to the plain cache.
 
 ghost use Rattle.std.specs.Prelude.{◌≡◌, false, IfOk};
 ghost use Rattle.apcu_model.specs.Sequential.{is_iteration};
@@ -26,7 +26,7 @@ fn no_copies(alloc: Global) -> Result<Copies, AllocError> {
     Ok(Copies { first, second })
 }
 
-// The row of the key, held from the next event on while it is there.
+// The row of the key, held from the next event on while it exists.
 fn held_row(alloc: Global, held: &mut Held, name: u8) -> Result<Copy, AllocError> {
     let key = Bytes::of(alloc, &key(name))?;
     let at = held.place_of(&key);
@@ -40,7 +40,7 @@ fn request_under(rt: &impl Abort, alloc: Global, name: u8, act: Act) -> Result<R
     request_of(rt, alloc, key, act)
 }
 
-// What is answered in an event that meets the workers of the mask.
+// The reply in an event with this mask.
 fn answer_held(
     rt: &impl Abort,
     alloc: Global,
@@ -66,7 +66,7 @@ fn answer_plainly(
     Ok(number_in(&reply))
 }
 
-// Both caches are asked at a moment under a key. They answer the same, and count the same.
+// Makes a request at a moment under a key to both caches. They reply the same, and count the same.
 fn both_held(
     rt: &impl Abort,
     alloc: Global,
@@ -83,7 +83,7 @@ fn both_held(
     Ok(())
 }
 
-// Now and then the row of this key is held for a worker.
+// From time to time the row of this key is held for a worker.
 fn take_up(
     alloc: Global,
     held: &mut Held,
@@ -99,7 +99,7 @@ fn take_up(
     Ok(())
 }
 
-// So many requests as they come.
+// This many random requests.
 fn ask_held(
     rt: &impl Abort,
     alloc: Global,
@@ -132,9 +132,9 @@ fn plain_of(rt: &impl Abort, alloc: Global, conf: &Conf) -> Plain {
     Plain::new(alloc, conf)
 }
 
-// So many requests as they come, of both caches, which are never short of room, so that what is
-// held changes no answer. Each one meets some of two workers, for which blocks are held by turns.
-// In the end each key has the same value in both.
+// This many random requests to both caches, which are never short of room, so that what is held
+// changes no reply. The mask of each has some of two workers, for which blocks are held in turn. In
+// the end each key has the same value in both.
 fn many_held(rt: &impl Abort, alloc: Global, conf: &Conf, requests: u32) -> Result<(), Fail> {
     let mut held = held_of(rt, alloc, conf)?;
     let mut plain = plain_of(rt, alloc, conf);
@@ -155,7 +155,7 @@ fn many_held(rt: &impl Abort, alloc: Global, conf: &Conf, requests: u32) -> Resu
     Ok(())
 }
 
-// The plain cache is the judge where blocks are held for workers.
+// Requests while blocks are held for workers, judged by the plain cache.
 #[test]
 fn answers_as_the_plain_cache_with_windows(rt: HostRuntime) -> Result<(), Fail> {
     many_held(&rt, rt.alloc(), &shape(65_536, 0), 2_000)?;
@@ -163,7 +163,7 @@ fn answers_as_the_plain_cache_with_windows(rt: HostRuntime) -> Result<(), Fail> 
     many_held(&rt, rt.alloc(), &segments(262_144, 32, 64), 2_000)
 }
 
-// Each is asked in an event that meets the workers of the mask, and has its answer.
+// Each is made in an event with this mask, and has its reply.
 fn play_held(
     rt: &impl Abort,
     alloc: Global,
@@ -207,8 +207,8 @@ fn keeps_what_is_held(rt: HostRuntime) -> Result<(), Fail> {
     Ok(())
 }
 
-// What is asked in an event that meets the workers of the mask, the answer, and where the row of
-// the key then stands; 0 for nowhere.
+// A request in an event with this mask, its reply, and the place of the row of the key after it; 0
+// for none.
 type Placed = (u64, u8, Act, Option<i64>, u32);
 
 fn play_placed(
@@ -235,8 +235,8 @@ fn hold_both(alloc: Global, held: &mut Held, first: u8, second: u8) -> Result<Co
     })
 }
 
-// Two removed rows stand on either side of a border, and are held. What becomes free there is two
-// gaps, also where all rows go and where both are let go at once.
+// Two removed rows are on either side of a border, and are held. What becomes free there is two
+// gaps, also if all rows are dropped and if both are released at once.
 #[test]
 fn keeps_what_is_held_beside_a_border(rt: HostRuntime) -> Result<(), Fail> {
     const FULL: &[Placed] = &[
@@ -279,7 +279,7 @@ fn keeps_what_is_held_beside_a_border(rt: HostRuntime) -> Result<(), Fail> {
     play_then_hold(&rt, alloc, &mut held, AGAIN, LET_GO)
 }
 
-// The one rows, with nothing held, and then the others, while those of the keys 2 and 3 are held.
+// Some rows, with nothing held, and then others, while those of the keys 2 and 3 are held.
 fn play_then_hold(
     rt: &impl Abort,
     alloc: Global,
