@@ -1,4 +1,4 @@
-//! What is left of a cache once all its workers have ended.
+//! What is left of a cache after all its workers have ended.
 
 ghost use Rattle.std.specs.Prelude.{◌≡◌, ◌≤◌, [], ◌∷◌, IfSome};
 ghost use Rattle.seg_words.specs.contracts.vec_words.VecWordsWordsIn.TheImpl as held;

@@ -1,4 +1,4 @@
-//! Two workers, what one stores, and a copy of it as it is begun and ended.
+//! Two workers, what one stores, and the begin and the end of a copy of it.
 
 ghost use Rattle.std.specs.Prelude.{◌≡◌, ◌+◌, ◌≤◌, [], ◌∷◌, List, length, IfSome};
 ghost use Rattle.php_graph.specs.declared.kind.Kind.{Kind};

@@ -12,15 +12,15 @@ use std::marker::Brand;
 use std::sync::Wait;
 use std::test::Fail;
 
-// What becomes of a copy that a fetch has begun.
+// What is done with a copy that a fetch has begun.
 #[derive(Clone, Copy)]
 enum Copy {
     Made,
     Dropped,
 }
 
-// The first worker stores a value and fetches it, and does nothing more; whether it was copied or
-// left in its block.
+// The first worker stores a value and fetches it, and does nothing more. Returns whether it was
+// copied or left in its block.
 fn leaves<N: TableName, R: Wait>(
     rt: &R,
     alloc: Global,
@@ -45,7 +45,7 @@ fn leaves<N: TableName, R: Wait>(
     }
 }
 
-// What the second worker was answered.
+// The replies to the second worker.
 #[derive(Clone, Copy, Debug, PartialEq, Eq)]
 struct Met {
     left: bool,

@@ -1,4 +1,4 @@
-//! What is told of a cache that two workers share.
+//! Information about a cache that two workers share.
 
 ghost use Rattle.std.specs.Prelude.{◌≡◌, ◌+◌, ◌<◌, ◌≤◌, ◌^◌, [], ◌∷◌, length};
 
@@ -24,7 +24,7 @@ const CACHE: &[u8] = b"a:8:{s:9:\"num_slots\";i:32;s:3:\"ttl\";i:0;s:8:\"num_hit
 const MEMORY: &[u8] = b"a:4:{s:7:\"num_seg\";i:1;s:8:\"seg_size\";i:4096;s:9:\"avail_mem\";i:3712;\
     s:11:\"block_lists\";a:1:{i:0;a:1:{i:0;a:2:{s:4:\"size\";i:3712;s:6:\"offset\";i:384;}}}}";
 
-// Whether the text was told that was expected.
+// Whether the text was the expected one.
 #[derive(Clone, Copy, Debug, PartialEq, Eq)]
 enum Told {
     Nothing,
@@ -47,7 +47,7 @@ fn told_as(alloc: Global, value: &Graph, text: &[u8]) -> Told {
     }
 }
 
-// What is told of a key, of the cache and of its memory; the pass has at most one event less.
+// Information about a key, the cache and its memory; the pass has at most one event less.
 fn tells_key<N: TableName, R: Wait>(
     rt: &R,
     alloc: Global,
@@ -106,7 +106,7 @@ fn tells_memory<N: TableName, R: Wait>(
 }
 
 // The first worker stores an integer for ten seconds, and the second one fetches it. The first one
-// then asks for its row and for another key's, and the second one for all.
+// then requests its row and another key's, and the second one all.
 fn tells<N: TableName, R: Wait>(
     rt: &R,
     alloc: Global,

@@ -1,4 +1,4 @@
-//! Iterators of two workers, and copies that wait meanwhile.
+//! Iterators of two workers, and copies that are in progress meanwhile.
 
 ghost use Rattle.std.specs.Prelude.{◌≡◌, ◌+◌, ◌≤◌, [], ◌∷◌};
 
@@ -19,8 +19,8 @@ const ALL: Fields = Fields(511);
 
 const KEY_AND_DELETION: Fields = Fields(33);
 
-// What a step gave, and of its first item whether its key is `a`, whether it has its value, when it
-// was dropped, and its bytes.
+// The result of a step, and of its first item whether its key is `a`, whether it has its value,
+// when it was dropped, and its bytes.
 #[derive(Clone, Copy, Debug, PartialEq, Eq)]
 struct Step {
     next: u32,
@@ -65,7 +65,7 @@ fn one_step<N: TableName, R: Wait>(
     }
 }
 
-// How many rows there are, how often they were fetched, and their bytes.
+// The number of rows, the sum of their hits, and their bytes.
 fn sums<N: TableName, R: Wait>(
     rt: &R,
     alloc: Global,
@@ -82,14 +82,15 @@ fn sums<N: TableName, R: Wait>(
     (pass, totals.ok())
 }
 
-// What a step and a sum gave.
+// The results of a step and of totals.
 #[derive(Clone, Copy, Debug, PartialEq, Eq)]
 struct Told {
     step: Option<Step>,
     sum: Option<(u64, u64, u64)>,
 }
 
-// The first worker stores an integer. The second one iterates, and the first one sums up.
+// The first worker stores an integer. The second one iterates, and the first one computes the
+// totals.
 fn iterate<N: TableName, R: Wait>(
     rt: &R,
     alloc: Global,
@@ -135,8 +136,8 @@ fn two_workers_iterate(rt: HostRuntime) -> Result<(), Fail> {
     Ok(())
 }
 
-// What was met while a copy waited: where the step ended that deleted its row, what was told of the
-// deleted row, and whether a value found room.
+// What was found while a copy was in progress: where the step that deleted its row ended, the item
+// of the deleted row, and whether there was room for a value.
 #[derive(Clone, Copy, Debug, PartialEq, Eq)]
 struct Meanwhile {
     next: Option<u32>,
@@ -144,7 +145,7 @@ struct Meanwhile {
     stored: bool,
 }
 
-// And whether the copy was whole, and a value found room behind it.
+// And whether the copy was whole, and there was room for a value after it.
 #[derive(Clone, Copy, Debug, PartialEq, Eq)]
 struct Waited {
     meanwhile: Meanwhile,
@@ -169,8 +170,8 @@ fn delete_step<N: TableName, R: Wait>(
     (pass, next.ok())
 }
 
-// The second worker deletes the row, asks for the deleted rows, and stores a value for which there
-// is no room beside the row's block.
+// The second worker deletes the row, lists the deleted rows, and stores a value for which there is
+// no room besides the row's block.
 fn act_meanwhile<N: TableName, R: Wait>(
     rt: &R,
     alloc: Global,

@@ -1,5 +1,5 @@
-//! Tests of `shared_cache`, over what it makes public: workers that meet, what they copy and are
-//! answered, iterators, and what is left in the end.
+//! Tests of `shared_cache` through its public functions: workers that meet, their copies and
+//! replies, iterators, and what is left in the end.
 #![tactic(auto)]
 
 #[cfg(test)]

@@ -37,7 +37,7 @@ pub(crate) fn letters(rt: &impl Abort, alloc: Global, count: usize) -> Result<Gr
     Ok(builder.seal())
 }
 
-// What open_cache refuses.
+// The error of `open_cache`.
 fn fault(rt: &impl Wait, alloc: Global, conf: &Conf, budgets: &[u32]) -> Option<OpenFault> {
     match open_cache(rt, alloc, conf, budgets) {
         Ok(_) => None,
@@ -72,7 +72,7 @@ pub(crate) fn two_passes<N: TableName>(passes: &mut Passes) -> Option<(Pass, Pas
     Some((first, second))
 }
 
-// Two workers do their works at once. The second one then does a later one, learns of the first
+// Two workers do their work at once. The second one then does further work, learns of the first
 // one's end, and clears the cache.
 fn two_at_once<N: TableName + Send + Sync, R: Threads + Wait + Sync>(
     rt: &R,
@@ -165,7 +165,7 @@ fn once(counted: Option<i64>, number: i64) -> u32 {
     u32::from(counted == Some(number))
 }
 
-// How often a number was counted to.
+// How often counting returned a number.
 fn times(did: Did, number: i64) -> u32 {
     match did {
         Did::Counted(met) => once(met[0], number)
@@ -201,7 +201,7 @@ fn given(number: i64, fate: Fate) -> Did {
     }
 }
 
-// What is met where the value is this integer, and where each had it from.
+// The replies if the value is this integer, and how each found it.
 fn all_given(number: i64, first: Fate, second: Fate) -> [Did; 3] {
     [
         given(number, first),

@@ -13,8 +13,8 @@ use std::sync::Wait;
 use std::test::Fail;
 use std::thread::{Threads, join};
 
-// Each worker stores a key of its own. They meet, and then each asks whether the other one's key is
-// there. The second of the result is whether both stored, and both found it.
+// Each worker stores a key of its own. They meet, and then each tests whether the other one's key
+// exists. The second of the result is whether both stored, and both found it.
 fn two_rounds<N: TableName + Send + Sync, R: Threads + Wait + Sync>(
     rt: &R,
     fresh: Fresh,

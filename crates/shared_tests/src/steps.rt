@@ -122,7 +122,7 @@ pub(crate) fn count<N: TableName, R: Wait>(
     shared.inc(rt, pass, key, 1, 0, 5)
 }
 
-// A counter is set where it is as expected.
+// A counter is set if it has the expected value.
 pub(crate) fn swap<N: TableName, R: Wait>(
     rt: &R,
     shared: &Shared<N>,

@@ -14,7 +14,8 @@ use std::sync::Wait;
 use std::test::Fail;
 
 // A row stores the value of a text, which is to be printed again: strings of no byte, of part of a
-// word, of whole words, and of more than eight words with part of one, and a value that is none.
+// word, of whole words, and of more than eight words with part of one, and a value that is no
+// string.
 const TEXTS: [&[u8]; 5] = [
     b"s:0:\"\";",
     b"s:5:\"hello\";",
@@ -23,7 +24,7 @@ const TEXTS: [&[u8]; 5] = [
     b"a:2:{i:0;s:5:\"hello\";s:1:\"k\";b:1;}",
 ];
 
-// The worker stores the value and prints what it fetches, behind what stands there.
+// The worker stores the value and prints what it fetches, after what is already there.
 fn prints<N: TableName, R: Wait>(
     rt: &R,
     alloc: Global,

@@ -1,4 +1,4 @@
-//! What a worker does with the cache, and what it is answered.
+//! What a worker does with the cache, and the replies to it.
 
 ghost use Rattle.std.specs.Prelude.{◌≡◌, ◌+◌, ◌<◌, ◌≤◌, ◌^◌, length, IfOk};
 
@@ -11,23 +11,22 @@ use shared_cache::Shared;
 use std::alloc::{AllocError, Global};
 use std::sync::Wait;
 
-// What a worker is to do, in four events at most.
+// What a worker is to do, in at most four events.
 #[derive(Clone, Copy)]
 pub(crate) enum Work {
-    // stores the value under a key of this byte, once more where there is none, counts it, and
-    // fetches it
+    // stores the value under a key of this byte, again if there is none, counts it, and fetches it
     Store(u8),
     // looks for the key of this byte, deletes it, and fetches what is there
     Take(u8),
     // counts three times
     Count,
-    // sets the counter where it is 6, twice, and counts once more
+    // sets the counter if it is 6, twice, and counts once more
     Swap,
-    // asks a generator for this integer, and fetches what is under its inner key
+    // stores this integer by a generator, and fetches what is under its inner key
     Ask(i64),
 }
 
-// What it was answered.
+// The replies to it.
 #[derive(Clone, Copy, Debug, PartialEq, Eq)]
 pub(crate) enum Did {
     Stored {
@@ -130,7 +129,7 @@ fn swaps<N: TableName, R: Wait>(rt: &R, shared: &Shared<N>, pass: Pass) -> (Pass
     (pass, Did::Swapped { taken, again, on })
 }
 
-// An entry of `k1` round an entry of `k2` round an integer.
+// An entry of `k1` around an entry of `k2` around an integer.
 fn nested(alloc: Global, n: i64) -> Result<Gen, AllocError>
     ensures { IfOk result (λ g. length g.levels ≡ 2) }
 {
@@ -153,7 +152,7 @@ fn integer_of(value: &Graph) -> Option<i64> {
     }
 }
 
-// The integer that a generator gives, and where it came from.
+// The integer of a generator, and how it was found.
 fn give<N: TableName, R: Wait>(
     rt: &R,
     alloc: Global,
