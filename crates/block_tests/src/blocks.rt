@@ -1,11 +1,11 @@
-//! Blocks that are taken, given and kept, and the gaps that are left.
+//! Blocks that are taken, freed and kept, and the gaps that are left.
 
 use crate::steps::{Shape, Step, play_over};
 use sma_blocks::{block_laws, call_laws, list_laws};
 use std::alloc::{AllocError, Global};
 use std::test::Fail;
 
-// Steps over so many words of one segment, from the word 32 on.
+// Steps over this many words of one segment, from the word 32 on.
 fn play_new(alloc: Global, len: u32, steps: &[Step]) -> Result<usize, AllocError> {
     let shape = Shape {
         len,
@@ -161,7 +161,7 @@ fn keeps_blocks(rt: HostRuntime) -> Result<(), Fail> {
     Ok(())
 }
 
-// The one steps and then the others.
+// The first steps and then the others.
 fn joined(alloc: Global, first: &[Step], then: &[Step]) -> Result<Vec<Step>, AllocError> {
     let mut steps = Vec::new(alloc);
     for step in first {
@@ -173,7 +173,7 @@ fn joined(alloc: Global, first: &[Step], then: &[Step]) -> Result<Vec<Step>, All
     Ok(steps)
 }
 
-// So many calls, drawn by a linear congruential generator.
+// This many calls, drawn by a linear congruential generator.
 fn draw(alloc: Global, count: u32) -> Result<Vec<Step>, AllocError> {
     let mut steps = Vec::new(alloc);
     let mut state: u64 = 1;
@@ -199,8 +199,8 @@ fn agrees_with_the_plain_list(rt: HostRuntime) -> Result<(), Fail> {
     Ok(())
 }
 
-// Two segments of 34 words. The border stands in the middle of four words that have one number of
-// the index.
+// Two segments of 34 words. The border is in the middle of four words that have one number of the
+// index.
 const TWO: Shape = Shape {
     len: 68,
     from: 2,
@@ -343,7 +343,7 @@ fn keeps_blocks_of_segments(rt: HostRuntime) -> Result<(), Fail> {
     Ok(())
 }
 
-// Calls as they come, over segments of 4 j + 2 words, of 4 j words, and of as many as can be.
+// Random calls, over segments of 4 j + 2 words, of 4 j words, and of as many as can be.
 #[test]
 fn agrees_with_the_plain_list_in_segments(rt: HostRuntime) -> Result<(), Fail> {
     const SHAPES: [(u32, u32, u32); 6] = [

@@ -41,7 +41,7 @@ fn removes_in_another_order(rt: HostRuntime) -> Result<(), Fail> {
         (Step::Remove(b'!'), 32),
         (Step::Remove(b'!'), 0),
     ];
-    // one is left in the chain; the removed ones stand by their moments
+    // one is left in the chain; the removed ones have their moments
     let words = [
         (6, 80),
         (81, 0),

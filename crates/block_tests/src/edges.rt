@@ -7,7 +7,7 @@ use io_edges::{
 use std::io::{self, Error, ErrorKind, Read, Write};
 use std::test::Fail;
 
-// Answers each call from a table, and then says that it is at its end.
+// Replies to each call from a table, and then reports its end.
 #[derive(Drop)]
 struct ScriptedReader {
     answers: [Step; 5],
@@ -142,7 +142,7 @@ fn all_is_read_in_any_pieces(rt: HostRuntime) -> Result<(), Fail> {
 #[test]
 fn a_read_fails_in_turn(rt: HostRuntime) {
     let alloc = rt.alloc();
-    // Three reads give the bytes, the fourth says that nothing is left, and a fifth is not made.
+    // Three reads return the bytes, the fourth reports the end, and a fifth is not made.
     for (number, wanted) in [
         (0, Some("read fault")),
         (2, Some("read fault")),

@@ -20,7 +20,7 @@ enum Step {
     Back(u32),
     Same(u32),
     Close,
-    // Nulls under so many integers, from the first in these steps.
+    // Nulls under this many integers, from the first in these steps.
     Ints(i64, i64, u8),
 }
 
@@ -86,7 +86,7 @@ fn put_step(
     }
 }
 
-// Each step is taken, or refused so where its row names a fault.
+// Each step is accepted, or refused with the fault of its row.
 fn play(
     rt: &impl Abort,
     alloc: Global,
@@ -103,7 +103,7 @@ fn play(
     Ok(())
 }
 
-// All of them are taken.
+// All of them are accepted.
 fn take(
     rt: &impl Abort,
     alloc: Global,
@@ -121,7 +121,7 @@ fn sealed(rt: &impl Abort, builder: Builder) -> Graph {
     builder.seal()
 }
 
-// The places of what is built so.
+// The places of the graph that is built.
 fn played(
     rt: &impl Abort,
     alloc: Global,
@@ -305,7 +305,7 @@ const MIXED: [(Step, Option<BuildFault>); 19] = [
     (Step::Close, None),
 ];
 
-// A key that was refused with many others there is refused again, and others are taken.
+// A key that was refused with many others there is refused again, and others are accepted.
 const RISING: [(Step, Option<BuildFault>); 9] = [
     (Step::Array, None),
     (Step::Ints(0, 3, 20), None),
@@ -319,7 +319,7 @@ const RISING: [(Step, Option<BuildFault>); 9] = [
 ];
 
 // Twelve names whose hashes fall, and four of one hash; each is refused once more, and another is
-// taken.
+// accepted.
 const NAMES: [(Step, Option<BuildFault>); 42] = [
     (Step::Array, None),
     (Step::Name(b"z"), None),
@@ -391,8 +391,8 @@ fn tables(rt: HostRuntime) -> Result<(), Fail> {
     Ok(())
 }
 
-// A value of an array takes its place with its offset, and its member. A graph holds its first
-// place.
+// The memory of a value in an array is its place with its offset, and its member. A graph contains
+// its first place.
 #[test]
 fn graph_is_small(rt: HostRuntime) {
     assert!(rt; size_of::<Place>() + size_of::<(Key, Child)>() <= 72);

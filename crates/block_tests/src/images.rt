@@ -99,7 +99,7 @@ fn round_trip<S: Segment>(
     unpersist(alloc, row, at, g.words() as u32)
 }
 
-// A row with the graph's image at place `at`, and a word behind it.
+// A row with the graph's image at place `at`, and a word after it.
 fn row_of(alloc: Global, at: u32, g: &Graph) -> Result<Vec<u64>, AllocError> {
     let words = g.words();
     if words > 1000 || at > 2 {
@@ -110,7 +110,7 @@ fn row_of(alloc: Global, at: u32, g: &Graph) -> Result<Vec<u64>, AllocError> {
     Ok(row.into_words())
 }
 
-// What the image of the graph that the steps write is, at place 2.
+// The image of the graph that the steps write, at place 2.
 fn image(alloc: Global, steps: &[Step]) -> Result<Vec<u64>, AllocError> {
     match graph_of(alloc, steps) {
         Some(g) => row_of(alloc, 2, &g),
@@ -226,7 +226,7 @@ fn brings_containers_back(rt: HostRuntime) -> Result<(), Fail> {
     Ok(())
 }
 
-// A byte string of so many bytes, no two of them alike.
+// A byte string of this many bytes, no two of them alike.
 fn text_of(alloc: Global, len: usize) -> Option<Graph> {
     if len > 100 {
         return None;
@@ -276,7 +276,7 @@ fn brings_texts_of_each_length_back(rt: HostRuntime) -> Result<(), Fail> {
     Ok(())
 }
 
-// Bytes of so many z, written behind three words, and read again.
+// This many bytes z, written after three words, and read again.
 fn bytes_back(rt: &impl Abort, alloc: Global, len: usize) -> Result<Vec<u8>, Fail> {
     assert!(rt; len <= 200);
     let mut row = VecWords::new(alloc, 32)?;
@@ -298,8 +298,8 @@ fn copies_bytes_of_each_length(rt: HostRuntime) -> Result<(), Fail> {
     Ok(())
 }
 
-// The image of a byte string of which no graph is made, and how many words it and a block with a
-// key of nine bytes take.
+// The image of a byte string without a graph, and how many words it and a block with a key of nine
+// bytes take.
 #[test]
 fn writes_bytes_without_a_graph(rt: HostRuntime) -> Result<(), Fail> {
     let rows: [(&[u8], &[u64], u64, u64); 3] = [

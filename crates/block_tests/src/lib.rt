@@ -1,6 +1,6 @@
 //! Tests of values and of the words that hold them: byte strings and value graphs, their texts and
-//! their words, the edges where bytes come in and go out; rows of numbers, the blocks that the
-//! allocator gives, the table of pinned blocks, and entries with their chains.
+//! their words, the edges at which bytes are read and written; rows of numbers, the blocks of the
+//! allocator, the table of pinned blocks, and entries with their chains.
 #![tactic(auto)]
 
 #[cfg(test)]

@@ -1,4 +1,4 @@
-//! Calls beside a plain list of the live blocks.
+//! Calls compared with a plain list of the live blocks.
 
 ghost use Rattle.std.specs.Prelude.{◌≡◌, ℕ, ◌+◌, ◌%◌, ◌<◌, ◌≤◌, true, false, length};
 ghost use Rattle.std.specs.Prelude.{slice_index, insert, IfOk, OnOk, All};
@@ -59,7 +59,7 @@ fn without_place(alloc: Global, blocks: &[Extent], at: u32) -> Result<Vec<Extent
         .collect(alloc)
 }
 
-// Gives the block at an index of the list of live blocks, and says the list that is left.
+// Frees the block at an index of the list of live blocks, and returns the list that is left.
 pub(crate) fn give_listed<S: Segment>(
     alloc: Global,
     sma: &mut Sma,
@@ -95,7 +95,7 @@ fn places_of(alloc: Global, blocks: &[Extent], which: u64) -> Result<Vec<u32>, A
     Ok(places)
 }
 
-// Whether each place but the first lies past the one before.
+// Whether each place except the first is after the one before.
 fn are_rising(places: &[u32]) -> bool
     ensures { result ≡ true → (i : ℕ) → i + 1 < length places.now
         → slice_index places.now i < slice_index places.now (i + 1) }
@@ -123,14 +123,14 @@ fn rising_places_of(alloc: Global, blocks: &[Extent], which: u64) -> Result<Vec<
     Ok(Vec::new(alloc))
 }
 
-// Whether the place stands in the list.
+// Whether the place is in the list.
 fn stands(places: &[u32], at: u32) -> bool
     ensures { result ≡ has at places.now }
 {
     places.contains(&at)
 }
 
-// The blocks that stand at one of the places.
+// The blocks that are at one of the places.
 fn with_places(alloc: Global, blocks: &[Extent], places: &[u32]) -> Result<Vec<Extent>, AllocError>
     ensures { IfOk result (λ kept. kept.items ≡ kept_blocks places.now blocks.now) }
 {
@@ -141,7 +141,8 @@ fn with_places(alloc: Global, blocks: &[Extent], places: &[u32]) -> Result<Vec<E
         .collect(alloc)
 }
 
-// Keeps the blocks whose index, modulo 64, is a bit of the number, and says the list that is left.
+// Keeps the blocks whose index, modulo 64, is a bit of the number, and returns the list that is
+// left.
 pub(crate) fn keep_listed<S: Segment>(
     alloc: Global,
     sma: &mut Sma,

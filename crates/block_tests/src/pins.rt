@@ -1,4 +1,4 @@
-//! Blocks that workers pin in a table of words, and what the writer then meets.
+//! Blocks that workers pin in a table of words, and what the writer's probes then find.
 
 ghost use Rattle.std.specs.Prelude.{◌≡◌, ℕ, ◌+◌, ◌<◌, ◌≤◌, length, slice_index, slice_set};
 ghost use Rattle.std.specs.Prelude.{Some, None, IfOk, IfSome};
@@ -86,7 +86,7 @@ fn pins(table: &PinTable, seat: &mut WriterSeat, pass: Pass) -> Copying
     writer.give_copying(Ask::Fetch(b"key"), 5, 2)
 }
 
-// Probes the block at 2: the answer, and the workers met.
+// Probes the block at 2: the result, and the workers found.
 fn probes(table: &PinTable, seat: &mut WriterSeat, pass: Pass) -> (Pass, bool, u64)
     requires table { seat.old.table ≡ table.now }
     requires pass { pass.table ≡ table.now }
@@ -108,7 +108,7 @@ fn probes(table: &PinTable, seat: &mut WriterSeat, pass: Pass) -> (Pass, bool, u
     (writer.give_pass(Ask::Delete(b"key"), 6), free, mask)
 }
 
-// Ends a worker, and looks at what it has seen.
+// Ends a worker, and returns what it has seen.
 fn ends(table: &PinTable, seat: &mut WriterSeat, pass: Pass) -> Ended
     requires table { seat.old.table ≡ table.now }
     requires pass { pass.table ≡ table.now }
@@ -127,7 +127,7 @@ fn ends(table: &PinTable, seat: &mut WriterSeat, pass: Pass) -> Ended
     table.learn(seat, ended)
 }
 
-// Words of the image, one by one and eight at a time, and how many the image says it has.
+// Words of the image, one by one and eight at a time, and the number of words in the image.
 fn copied(table: &PinTable, copying: &mut Copying) -> (u64, u64, [u64; 8], u32)
     requires table { copying.old.table ≡ table.now }
     requires length { length copying.old.copy.content ≡ 9 }
@@ -146,9 +146,9 @@ fn copied(table: &PinTable, copying: &mut Copying) -> (u64, u64, [u64; 8], u32)
     (first, fourth, eight, count)
 }
 
-// What is seen on the way: the passes' numbers and events, the word that was stored, what the two
-// probes answered and whom they met, where the image stands and what was copied of it, the events
-// that are left after the second probe, and the words that come back.
+// What is seen on the way: the passes' numbers and events, the word that was stored, the results of
+// the two probes and whom they found, the place of the image and what was copied of it, the events
+// that are left after the second probe, and the words that are returned.
 #[derive(Clone, Copy)]
 struct Seen {
     passes: [u32; 4],
@@ -161,7 +161,7 @@ struct Seen {
     words: (u32, u64, u64, u64),
 }
 
-// The first pass pins the block while the second one stores and probes; then it lets the block go,
+// The first pass pins the block while the second one stores and probes; then it unpins the block,
 // and the second one probes again.
 fn pin_probe_and_release(alloc: Global) -> Result<Seen, Fail> {
     let words = one_block(alloc)?;

@@ -7,7 +7,7 @@ use max_tree::{MaxRow, PairRow};
 use std::alloc::{AllocError, Global};
 use std::test::Fail;
 
-// A call and what it must answer.
+// A call and its expected result.
 #[derive(Clone, Copy)]
 enum Step {
     // The number made the one at the place.
@@ -23,7 +23,7 @@ enum Step {
     Largest(u32),
 }
 
-// Plays a step on a row; whether it went as the step says.
+// Plays a step on a row, and returns whether it had the expected result.
 fn play_row(row: &mut MaxRow, step: Step) -> bool
     ensures { length row.new ≡ length row.old }
 {
@@ -52,7 +52,8 @@ fn play_row(row: &mut MaxRow, step: Step) -> bool
     }
 }
 
-// Plays a step on a row of pairs of that many numbers; whether it went as the step says.
+// Plays a step on a row of pairs of that many numbers, and returns whether it had the expected
+// result.
 fn play_pair(pairs: &mut PairRow, count: usize, step: Step) -> bool
     requires { length pairs.old ≡ count }
     ensures { length pairs.new ≡ count }
@@ -85,7 +86,7 @@ fn other(p: usize) -> usize
     if p % 2 == 0 { p + 1 } else { p - 1 }
 }
 
-// Whether a number may stand at a place beside the other one of its pair.
+// Whether a number may be at a place next to the other one of its pair.
 fn may_stand(p: usize, size: u32, other: u32) -> bool
     ensures { result ≡ true → MayStand p size other }
 {
@@ -102,8 +103,8 @@ fn is_size(size: u32) -> bool
     size % 2 == 0 && size > 1 && size < 1 << 31
 }
 
-// Makes an even number the one at a place, where the other one of the pair lets it; whether it
-// could.
+// Makes an even number the one at a place, if the other one of the pair allows it, and returns
+// whether it could.
 fn put(pairs: &mut PairRow, count: usize, p: usize, size: u32) -> bool
     requires { length pairs.old ≡ count }
     ensures { length pairs.new ≡ count }
@@ -119,7 +120,7 @@ fn put(pairs: &mut PairRow, count: usize, p: usize, size: u32) -> bool
     false
 }
 
-// Makes one number 0 and an even number the one at another place; whether it could.
+// Makes one number 0 and an even number the one at another place, and returns whether it could.
 fn move_to(pairs: &mut PairRow, count: usize, gone: usize, p: usize, size: u32) -> bool
     requires { length pairs.old ≡ count }
     ensures { length pairs.new ≡ count }
@@ -135,7 +136,8 @@ fn move_to(pairs: &mut PairRow, count: usize, gone: usize, p: usize, size: u32) 
     false
 }
 
-// Plays steps on a row of so many zeros; how many went as they say before one that did not.
+// Plays steps on a row of this many zeros, and returns how many had their expected results before
+// one that did not.
 fn play_on_row(alloc: Global, count: usize, steps: &[Step]) -> Result<usize, AllocError>
     requires { count < 2 ^ 32 }
 {

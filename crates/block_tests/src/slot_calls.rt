@@ -1,4 +1,4 @@
-//! Calls on a row that stands, on a slot and on all rows.
+//! Calls on an existing row, on a slot and on all rows.
 
 ghost use Rattle.std.specs.Prelude.{◌≡◌, ℕ, ◌*◌, ◌<◌, ◌≤◌, ◌^◌, true, false, [], length};
 ghost use Rattle.std.specs.Prelude.{slice_index};
@@ -64,8 +64,8 @@ fn numbers_of(read: &Read) -> [u64; 11] {
     ]
 }
 
-// In a cache made anew: stores a number under a key, sets it to n at the moment t, and uses it;
-// what is read of it then.
+// In a new cache: stores a number under a key, sets it to n at the moment t, and uses it; what is
+// read of it then.
 fn set_and_use<S: Segment>(
     seg: &mut S,
     conf: &Conf,
@@ -181,8 +181,8 @@ fn drops_a_slot(rt: HostRuntime) -> Result<(), Fail> {
     Ok(())
 }
 
-// In a cache made anew: puts a row, and frees all rows at once; where the row was put, how many
-// were left, and where the next one is put.
+// In a new cache: puts a row, and frees all rows at once; the place of the row, how many were left,
+// and the place of the next one.
 fn clear<S: Segment>(
     seg: &mut S,
     conf: &Conf,

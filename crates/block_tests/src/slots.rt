@@ -1,4 +1,4 @@
-//! Steps of a cache without values of its own, and what they answer.
+//! Steps of a cache without values of its own, and their results.
 
 ghost use Rattle.std.specs.Prelude.{◌≡◌, ℕ, ◌<◌, ◌^◌, false, length, IfSome};
 ghost use Rattle.seg_words.specs.Kept.{KeptBeside};
@@ -35,7 +35,7 @@ pub(crate) fn small() -> Conf
     }
 }
 
-// A row for a key and value, in the place of the key's row at `replaced`; where it was put.
+// A row for a key and value, which replaces the key's row at `replaced`; its place.
 pub(crate) fn insert<S: Segment>(
     slots: &mut EntrySlots,
     seg: &mut S,
@@ -65,17 +65,17 @@ pub(crate) fn insert<S: Segment>(
 // A step of a test. All keys are one byte long.
 #[derive(Clone, Copy, Debug)]
 pub(crate) enum Step {
-    // The key's row is put, and a row of it that is there is replaced.
+    // The key's row is put, and replaces an existing row of it.
     Put(u8),
     // The key's row becomes a removed one.
     Remove(u8),
-    // The key's row is gone.
+    // The key's row is freed.
     Delete(u8),
     // The first of the removed rows is freed.
     Sweep,
 }
 
-// Puts the row of a key; where.
+// Puts the row of a key; its place.
 fn put<S: Segment>(slots: &mut EntrySlots, seg: &mut S, key: u8, g: &Graph, t: u64) -> u32
     requires stand { Stand S.WordsIn slots.old seg.old }
     ensures stand { Stand S.WordsIn slots.new seg.new }
@@ -88,7 +88,7 @@ fn put<S: Segment>(slots: &mut EntrySlots, seg: &mut S, key: u8, g: &Graph, t: u
     insert(slots, seg, &[key], g, t, replaced).unwrap_or(0)
 }
 
-// The row of a key leaves its chain, and is a removed row or gone; where it was, or 0.
+// The row of a key is taken out of its chain, and is removed or freed; the place it had, or 0.
 fn leave<S: Segment>(slots: &mut EntrySlots, seg: &mut S, key: u8, removed: bool, t: u64) -> u32
     requires stand { Stand S.WordsIn slots.old seg.old }
     requires closed { (at : ℕ) → is_named (S.aside seg.old).windows at ≡ false }
@@ -108,7 +108,7 @@ fn leave<S: Segment>(slots: &mut EntrySlots, seg: &mut S, key: u8, removed: bool
     at
 }
 
-// Frees the first of the removed rows; where it was, or 0.
+// Frees the first of the removed rows; the place it had, or 0.
 fn sweep<S: Segment>(slots: &mut EntrySlots, seg: &mut S) -> u32
     requires stand { Stand S.WordsIn slots.old seg.old }
     requires closed { (at : ℕ) → is_named (S.aside seg.old).windows at ≡ false }
@@ -124,7 +124,7 @@ fn sweep<S: Segment>(slots: &mut EntrySlots, seg: &mut S) -> u32
     at
 }
 
-// One step; what it answers.
+// One step; its result.
 fn take_step<S: Segment>(slots: &mut EntrySlots, seg: &mut S, step: Step, g: &Graph, t: u64) -> u32
     requires stand { Stand S.WordsIn slots.old seg.old }
     requires closed { (at : ℕ) → is_named (S.aside seg.old).windows at ≡ false }
@@ -139,8 +139,8 @@ fn take_step<S: Segment>(slots: &mut EntrySlots, seg: &mut S, step: Step, g: &Gr
     }
 }
 
-// Takes the steps, each at the moment of its number, until one does not answer as is said; its
-// number.
+// Takes the steps, each at the moment of its number, until one does not have its expected result;
+// its number.
 pub(crate) fn play<S: Segment>(
     slots: &mut EntrySlots,
     seg: &mut S,
@@ -161,8 +161,8 @@ pub(crate) fn play<S: Segment>(
     steps.len()
 }
 
-// In a cache of 512 words and 32 slots: steps with what they answer, the rows that are left, the
-// first removed one, and words.
+// In a cache of 512 words and 32 slots: steps with their results, the rows that are left, the first
+// removed one, and words.
 pub(crate) fn plays(
     rt: &impl Abort,
     alloc: Global,
@@ -182,7 +182,7 @@ pub(crate) fn plays(
     Ok(())
 }
 
-// At these places stand these words.
+// These words are at these places.
 fn expect_words(rt: &impl Abort, words: &[u64], wanted: &[(usize, u64)]) {
     for (place, word) in wanted.iter() {
         assert_eq!(rt; words.get(*place), Some(word), "at {place}");

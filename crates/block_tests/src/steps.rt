@@ -1,4 +1,4 @@
-//! Steps over words, and how many go as they say.
+//! Steps over words, and how many have their expected results.
 
 ghost use Rattle.std.specs.Prelude.{◌≡◌, ℕ, ◌+◌, ◌%◌, ◌^◌, ◌<◌, ◌≤◌, true, false, [], OnOk};
 ghost use Rattle.seg_words.specs.Windows.{is_named};
@@ -11,16 +11,16 @@ use seg_words::{Extent, Segment, VecWords, first_fit};
 use sma_blocks::Sma;
 use std::alloc::{AllocError, Global};
 
-// A call and what it must answer, or a word and what it must be.
+// A call and its expected result, or a word and its expected value.
 #[derive(Clone, Copy)]
 pub(crate) enum Step {
-    // So many words taken, and where.
+    // Takes this many words, at this place.
     Take(u32, Option<u32>),
-    // The block of this index given.
+    // Frees the block of this index.
     Give(u32),
     // The blocks kept whose index, modulo 64, is a bit of the number.
     Keep(u64),
-    // So many words taken, wherever the plain list has the least place.
+    // Takes this many words, at the lowest place of the plain list.
     TakeLeast(u32),
     Free(u32),
     Largest(u32),
@@ -29,7 +29,7 @@ pub(crate) enum Step {
     Word(u32, u64),
 }
 
-// Plays a step; whether it went as the step says.
+// Plays a step, and returns whether it had its expected result.
 fn play_one<S: Segment>(
     alloc: Global,
     sma: &mut Sma,
@@ -79,7 +79,7 @@ fn play_one<S: Segment>(
     }
 }
 
-// Plays steps one after the other; how many went as they say before one that did not.
+// Plays steps one after the other; how many had their expected results before one that did not.
 fn play<S: Segment>(
     alloc: Global,
     sma: &mut Sma,
@@ -99,8 +99,8 @@ fn play<S: Segment>(
     Ok(steps.len())
 }
 
-// How many words there are, from which on blocks stand, and how many a segment has: 0 where all are
-// one segment.
+// How many words there are, from which on there are blocks, and how many a segment has: 0 if all
+// are one segment.
 #[derive(Clone, Copy)]
 pub(crate) struct Shape {
     pub(crate) len: u32,
@@ -108,7 +108,7 @@ pub(crate) struct Shape {
     pub(crate) piece: u32,
 }
 
-// Whether blocks can stand in words of this shape.
+// Whether blocks can be in words of this shape.
 fn is_shape(shape: Shape) -> bool
     ensures even { result ≡ true → (shape.from % 2 ≡ 0) × (shape.len % 2 ≡ 0) }
     ensures piece { result ≡ true → shape.piece % 2 ≡ 0 }
@@ -119,7 +119,8 @@ fn is_shape(shape: Shape) -> bool
     from % 2 == 0 && len % 2 == 0 && piece % 2 == 0 && len < 1 << 31 && from < len
 }
 
-// Plays steps over freshly formatted words; how many went as they say, or 0 where that is no shape.
+// Plays steps over freshly formatted words; how many had their expected results, or 0 if that is no
+// shape.
 pub(crate) fn play_over(alloc: Global, shape: Shape, steps: &[Step]) -> Result<usize, AllocError> {
     if !is_shape(shape) {
         return Ok(0);

@@ -35,7 +35,7 @@ fn byte_box_copies(rt: HostRuntime) -> Result<(), Fail> {
 }
 
 // A block that fits, one with room to spare, room alone, none, and one that grew, of few bytes and
-// of many; and those whose further room is told in 16 bits just so, or not.
+// of many; and those whose further room just fits into 16 bits, or does not.
 #[test]
 fn takes_blocks(rt: HostRuntime) -> Result<(), Fail> {
     let rows = [
@@ -85,8 +85,8 @@ fn string_of(rt: &impl Abort, alloc: Global, text: &[u8], is_copy: bool) -> Resu
     Ok(ByteBox::from_vec(bytes))
 }
 
-// Blocks are given back with their strings: after a thousand large ones, one after the other, the
-// process has not grown by half of them. They are of few bytes, of many with some room beside them,
+// Blocks are freed with their strings: after a thousand large ones, one after the other, the
+// process has not grown by half of them. They are of few bytes, of many with some room after them,
 // and of many with none.
 #[test]
 fn gives_blocks_back(rt: HostRuntime) -> Result<(), Fail> {

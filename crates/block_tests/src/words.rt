@@ -1,4 +1,4 @@
-//! Where words are free, and what segments and their layout give.
+//! Free words, segments and their layout.
 
 ghost use Rattle.std.specs.Prelude.{◌≡◌, ◌≢◌, ℕ, ◌+◌, ◌%◌, ◌<◌, ◌≤◌, length, slice_index, []};
 ghost use Rattle.std.specs.Prelude.{false};
@@ -13,7 +13,7 @@ use seg_words::{
 use std::process::Abort;
 use std::test::Fail;
 
-// Where words from one place up to another are asked for, and the least place.
+// A search for words from one place up to another, and the lowest place.
 #[derive(Clone, Copy, Drop)]
 struct Fit<'a> {
     from: u32,
@@ -27,7 +27,7 @@ const fn extent(place: u32, size: u32) -> Extent {
     Extent { place, size }
 }
 
-// The places are found, where so many words are a segment.
+// The places are found, with segments of this many words.
 fn find_each<A: Abort>(rt: &A, piece: u32, fits: &[Fit<'_>])
     requires { piece % 2 ≡ 0 }
 {
@@ -220,7 +220,7 @@ fn counts_words_of_bytes(rt: HostRuntime) {
     }
 }
 
-// Gives up the block at `at` by the word `w`, where nobody copies anything.
+// Writes the word `w` into the block at `at`, if no worker copies anything.
 fn give_up<S: Segment>(seg: &mut S, at: u32, w: u64) -> bool
     requires block { at + 12 ≤ length (S.words seg.old) }
     requires clear { (place : ℕ) → is_named (S.aside seg.old).windows place ≡ false }
@@ -250,7 +250,7 @@ fn stores_and_loads(rt: HostRuntime) -> Result<(), Fail> {
     Ok(())
 }
 
-// The words between are zeros, and so are those behind.
+// The words between are zeros, and so are those after them.
 #[test]
 fn late_words_are_zeros_first(rt: HostRuntime) -> Result<(), Fail> {
     let mut words = LateWords::new(rt.alloc(), 14)?;
@@ -265,7 +265,7 @@ fn late_words_are_zeros_first(rt: HostRuntime) -> Result<(), Fail> {
     Ok(())
 }
 
-// Eight words from a place on, as any row of words gives them.
+// Eight words from a place on, as any row of words returns them.
 fn eight_from<W: WordsIn>(row: &mut W, i: u32) -> [u64; 8]
     requires { i + 8 ≤ length (W.words row.old) }
 {
@@ -311,8 +311,8 @@ fn serves_by_its_bound(rt: HostRuntime) -> Result<(), Fail> {
     Ok(())
 }
 
-// An event: what is held for one worker before it, the workers met, and two places with what is
-// told of them.
+// An event: what is held for one worker before it, the workers found, and two places with the
+// results of their probes.
 #[derive(Clone, Copy, Drop)]
 struct Event {
     worker: u32,
