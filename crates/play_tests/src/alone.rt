@@ -50,8 +50,8 @@ fn plays_alone<N: TableName, M: Maker + Sync, R: Wait>(
     Some((shared.close(rt, ended), printed))
 }
 
-// A script alone, under a clock: what it prints, if none of its patterns is refused; how many
-// events it may make at most, and how many it makes, its end included in both.
+// A script alone, under a clock: what it prints, if none of its patterns is refused; the largest
+// number of events it may make, and the number it makes, its end included in both.
 #[derive(Clone, Copy)]
 struct Alone {
     script: &'static [u8],
@@ -78,8 +78,7 @@ fn played_alone<M: Maker + Sync, R: Wait>(
     }
 }
 
-// Where memory is missing the play ends with the fault, and only some first of the events were
-// made.
+// Without memory the play ends with the fault, and only the first of the events were made.
 fn expect<M: Maker + Sync, R: Wait + Abort>(
     rt: &R,
     alloc: Global,
@@ -152,7 +151,7 @@ const EVERY_CALL: Alone = Alone {
 };
 
 // Three rows in the slots 6, 6 and 7 of 32, walked over one by one, that is in three steps; then
-// those whose keys the pattern finds go.
+// those whose keys the pattern finds are deleted.
 const ITERATORS: Alone = Alone {
     script: b"worker\n\
         apcu_store a:3:{s:1:\"a\";i:1;s:1:\"A\";i:1;s:1:\"b\";i:1;}\n\
@@ -193,8 +192,8 @@ const TWO_REQUESTS: Alone = Alone {
     events: 4,
 };
 
-// Two pools on one cache. A key that comes again keeps its place; a default is numbered where it
-// stands; a time to live that is not positive deletes; clearing one pool spares the other one.
+// Two pools on one cache. A repeated key keeps its place; a default is numbered where it occurs; a
+// time to live that is not positive deletes; clearing one pool leaves the other one as it is.
 const POOLS: Alone = Alone {
     script: b"worker\n\
         pool_set s:1:\"p\"; s:1:\"a\"; i:5;\n\
@@ -243,7 +242,7 @@ const POOLS: Alone = Alone {
     events: 27,
 };
 
-// A script without calls, and one whose only call makes no event, beside those with all calls.
+// A script without calls, and one whose only call makes no event, with those of all calls.
 #[test]
 fn plays_alone_with_every_call(rt: HostRuntime) -> Result<(), Fail> {
     for case in [
@@ -270,8 +269,8 @@ fn plays_alone_with_every_call(rt: HostRuntime) -> Result<(), Fail> {
     Ok(())
 }
 
-// Where each pattern is refused, the worker stops at the first one, after the store, the walk and
-// the totals.
+// If each pattern is refused, the worker stops at the first one, after the store, the walk and the
+// totals.
 #[test]
 fn stops_at_a_refused_pattern(rt: HostRuntime) -> Result<(), Fail> {
     let refused = Alone {

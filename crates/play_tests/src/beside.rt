@@ -107,7 +107,7 @@ fn plays_both<N: TableName + Send + Sync, G: Gate + Sync, R: Threads + Wait + Sy
     Some((shared.close(rt, ended), printed, other))
 }
 
-// The points of one worker, and whose event each mark is and whom it met.
+// The points of one worker, and for each mark its worker and its mask.
 fn points_of(alloc: Global, points: &[(u32, Point)], worker: u32) -> Result<Vec<Point>, Fail> {
     let mut own = Vec::new(alloc);
     for (whose, point) in points {
@@ -147,7 +147,7 @@ fn scripts_of_both(alloc: Global) -> Result<(Script, Script), Fail> {
     Ok((first, second))
 }
 
-// The three events of the second worker met the first one.
+// The masks of the three events of the second worker have the first one.
 fn expect_marks(rt: &impl Abort, alloc: Global, journal: &Journal) -> Result<(), Fail> {
     let marks = marks_of(alloc, journal)?;
     let met_first = 1;
@@ -197,7 +197,7 @@ fn expect_points(rt: &impl Abort, alloc: Global, points: &[(u32, Point)]) -> Res
     Ok(())
 }
 
-// What came of both scripts: the closed cache, what each worker printed, and the points that the
+// The results of both scripts: the closed cache, what each worker printed, and the points that the
 // gate noted.
 #[derive(Drop)]
 struct Met {

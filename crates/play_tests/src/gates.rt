@@ -1,11 +1,12 @@
-//! A gate that notes what it is told.
+//! A gate that notes its calls.
 
 use io_edges::{Gate, Point};
 use std::alloc::{AllocError, Global};
 use std::sync::{Barrier, Mutex, Wait};
 
-// Notes whose point each is, as long as there is room. Worker 1 makes its first two calls while
-// worker 0 has a block pinned: each waits for the other before the first and after the second.
+// Notes the worker of each point, as long as there is room. Worker 1 makes its first two calls
+// while worker 0 has a block pinned: each waits for the other before the first and after the
+// second.
 #[derive(Drop)]
 pub(crate) struct Noting<'a, R: Wait> {
     rt: &'a R,
@@ -14,7 +15,7 @@ pub(crate) struct Noting<'a, R: Wait> {
 }
 
 impl<'a, R: Wait> Noting<'a, R> {
-    // A gate that notes so many points.
+    // A gate that notes this many points.
     pub(crate) fn new(rt: &'a R, alloc: Global, room: usize) -> Result<Noting<'a, R>, AllocError> {
         Ok(Noting {
             rt,

@@ -1,5 +1,5 @@
-//! Tests of plays and of verdicts on them: a worker alone, one beside another, and the gate that
-//! both pass; and outputs, judged by `run_verify`.
+//! Tests of plays and of verdicts on them: a worker alone, two at once, and the gate that both
+//! call; and outputs, judged by `run_verify`.
 #![tactic(auto)]
 
 #[cfg(test)]

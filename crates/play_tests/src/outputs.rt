@@ -1,4 +1,4 @@
-//! Where journals begin, which marks their lines spell, and where outputs first differ, as tables.
+//! Tables of where journals begin, which marks their lines spell, and where outputs first differ.
 
 use apcu_model::Mark;
 use notation::ByteOut;

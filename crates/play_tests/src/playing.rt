@@ -38,7 +38,7 @@ pub(crate) fn script_of(alloc: Global, text: &[u8]) -> Result<Script, Fail> {
     }
 }
 
-// Whether so many events are enough for a script, and one is left then.
+// Whether this many events are enough for a script, and one is left then.
 fn may_play(script: &Script, slots: u32, left: u32) -> bool
     ensures { IsTrue result → events_in slots script.now < left }
 {
@@ -56,7 +56,7 @@ fn may_play(script: &Script, slots: u32, left: u32) -> bool
     true
 }
 
-// Plays a script, where enough events are left for it and for the worker's end.
+// Plays a script, if enough events are left for it and for the worker's end.
 pub(crate) fn plays<N: TableName, M: Maker + Sync, G: Gate, R: Wait>(
     rt: &R,
     alloc: Global,

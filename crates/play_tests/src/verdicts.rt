@@ -9,10 +9,10 @@ use std::alloc::Global;
 use std::process::Abort;
 use std::test::Fail;
 
-// An output, and what it is.
+// An output, and its verdict.
 type Case = (&'static [u8], Verdict);
 
-// What the output is beside these scripts, with what makes regexes.
+// The verdict on an output of these scripts, with a maker of regexes.
 fn judged<M: Maker>(
     rt: &impl Abort,
     alloc: Global,
@@ -59,7 +59,7 @@ fn one_worker(rt: HostRuntime) -> Result<(), Fail> {
             Verdict::Byte(14),
         ),
         (b"worker 0\ni:5;b:1;\njournal\n0\n0\n0\n", Verdict::Byte(9)),
-        // A line feed lost, and one more.
+        // A line feed missing, and one more.
         (
             b"worker 0\nb:1;i:5;b:1;\njournal\n0\n0\n0\n",
             Verdict::Byte(13),
@@ -88,7 +88,7 @@ fn journals_of_one(rt: HostRuntime) -> Result<(), Fail> {
         (b"", Verdict::NoJournal),
         (b"worker 0\nb:1;\ni:5;b:1;\n", Verdict::NoJournal),
         (b"journal\n", Verdict::Event(0)),
-        // The last line lost, and its feed lost.
+        // The last line missing, and its line feed missing.
         (
             b"worker 0\nb:1;\ni:5;b:1;\njournal\n0\n0\n",
             Verdict::Event(2),
@@ -97,7 +97,7 @@ fn journals_of_one(rt: HostRuntime) -> Result<(), Fail> {
             b"worker 0\nb:1;\ni:5;b:1;\njournal\n0\n0\n0",
             Verdict::Event(2),
         ),
-        // One more, and bytes behind it.
+        // One more, and bytes after it.
         (
             b"worker 0\nb:1;\ni:5;b:1;\njournal\n0\n0\n0\n0\n",
             Verdict::Event(3),
@@ -142,7 +142,7 @@ fn two_workers(rt: HostRuntime) -> Result<(), Fail> {
             b"worker 0\nb:1;\nworker 1\nb:0;b:0;\njournal\n1\n0\n0\n1\n",
             Verdict::Yes,
         ),
-        // Their events the other way round.
+        // Their events in the other order.
         (
             b"worker 0\nb:1;\nworker 1\ni:5;b:1;\njournal\n1\n0\n0\n1\n",
             Verdict::Byte(23),
@@ -172,7 +172,7 @@ const HELD: &[u8] = b"worker\n\
 #[test]
 fn masks(rt: HostRuntime) -> Result<(), Fail> {
     let cases: [Case; 7] = [
-        // The copy is under way while the row is deleted.
+        // The copy is in progress while the row is deleted.
         (
             b"worker 0\nb:1;\na:1:{i:0;i:5;}b:1;\nworker 1\nb:1;\n\
                 a:1:{i:0;a:1:{s:3:\"key\";s:1:\"a\";}}\njournal\n0\n0\n1 0\n1\n0\n1\n",
@@ -184,7 +184,7 @@ fn masks(rt: HostRuntime) -> Result<(), Fail> {
                 a:0:{}\njournal\n0\n0\n1\n1\n0\n1\n",
             Verdict::Yes,
         ),
-        // The masks of the one beside the replies of the other.
+        // The masks of one with the replies of the other.
         (
             b"worker 0\nb:1;\na:1:{i:0;i:5;}b:1;\nworker 1\nb:1;\n\
                 a:1:{i:0;a:1:{s:3:\"key\";s:1:\"a\";}}\njournal\n0\n0\n1\n1\n0\n1\n",
@@ -195,7 +195,7 @@ fn masks(rt: HostRuntime) -> Result<(), Fail> {
                 a:0:{}\njournal\n0\n0\n1 0\n1\n0\n1\n",
             Verdict::Byte(49),
         ),
-        // A worker too many: the one itself, and one that is not there.
+        // A worker too many: the one itself, and one that does not exist.
         (
             b"worker 0\nb:1;\na:1:{i:0;i:5;}b:1;\nworker 1\nb:1;\n\
                 a:0:{}\njournal\n0\n0\n1 0 1\n1\n0\n1\n",
@@ -305,7 +305,7 @@ fn pools(rt: HostRuntime) -> Result<(), Fail> {
             b"worker 0\nb:1;\ni:5;\ni:9;\nb:1;\nb:0;\njournal\n0\n0\n0\n0\n0\n0\n",
             Verdict::Yes,
         ),
-        // The default in place of the value, and the value for another pool.
+        // The default instead of the value, and the value for another pool.
         (
             b"worker 0\nb:1;\ni:9;\ni:9;\nb:1;\nb:0;\njournal\n0\n0\n0\n0\n0\n0\n",
             Verdict::Byte(16),
@@ -314,7 +314,7 @@ fn pools(rt: HostRuntime) -> Result<(), Fail> {
             b"worker 0\nb:1;\ni:5;\ni:5;\nb:1;\nb:0;\njournal\n0\n0\n0\n0\n0\n0\n",
             Verdict::Byte(21),
         ),
-        // The key still there after the pool was cleared.
+        // The key still exists after the pool was cleared.
         (
             b"worker 0\nb:1;\ni:5;\ni:9;\nb:1;\nb:1;\njournal\n0\n0\n0\n0\n0\n0\n",
             Verdict::Byte(31),
@@ -332,7 +332,7 @@ fn pools(rt: HostRuntime) -> Result<(), Fail> {
     expect(&rt, rt.alloc(), POOLS, &cases)
 }
 
-// A worker sets two keys of a pool, gets one of them and another, and sets one that is over.
+// A worker sets two keys of a pool, gets one of them and another, and sets one that has expired.
 const POOL_KEYS: &[u8] = b"worker\n\
     pool_set_multiple s:1:\"p\"; a:2:{s:1:\"a\";i:1;s:1:\"b\";i:2;}\n\
     pool_get_multiple s:1:\"p\"; a:2:{i:0;s:1:\"b\";i:1;s:1:\"c\";} i:9;\n\
@@ -346,13 +346,13 @@ fn keys_of_a_pool(rt: HostRuntime) -> Result<(), Fail> {
                 journal\n0\n0\n0\n0\n0\n0\n0\n",
             Verdict::Yes,
         ),
-        // The default in place of the value that was set.
+        // The default instead of the value that was set.
         (
             b"worker 0\nb:1;\na:2:{s:1:\"b\";i:9;s:1:\"c\";i:9;}\nb:1;\nb:0;\n\
                 journal\n0\n0\n0\n0\n0\n0\n0\n",
             Verdict::Byte(29),
         ),
-        // A value that was over, still there.
+        // A value that had expired, still returned.
         (
             b"worker 0\nb:1;\na:2:{s:1:\"b\";i:2;s:1:\"c\";i:9;}\nb:1;\nb:1;\n\
                 journal\n0\n0\n0\n0\n0\n0\n0\n",
