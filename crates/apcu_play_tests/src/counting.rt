@@ -45,7 +45,7 @@ fn each_once(alloc: Global, printed: &[u8], last: usize) -> Result<bool, Fail> {
     Ok(found == last)
 }
 
-// The scripts of so many workers, which count so often each under one key.
+// The scripts of this many workers, each of which counts `calls` times under one key.
 fn counting(alloc: Global, workers: u32, calls: u32) -> Result<ByteOut, Fail> {
     let mut scripts = ByteOut::new(alloc);
     for _worker in 0..workers {
@@ -57,7 +57,7 @@ fn counting(alloc: Global, workers: u32, calls: u32) -> Result<ByteOut, Fail> {
     Ok(scripts)
 }
 
-// Each number that so many workers came to in so many calls each is printed once, and all events.
+// Each number that this many workers reach in this many calls each is printed once, and all events.
 fn expect_each(
     rt: &impl Abort,
     alloc: Global,
@@ -78,8 +78,8 @@ fn expect_each(
     Ok(())
 }
 
-// So many workers count so often each under one key, in the cache without options, and meet before
-// their call of this number.
+// This many workers count this often each under one key, in the cache without options, and meet
+// before their call of this number.
 fn expect_counted<R: Threads + Wait + Sync + Abort>(
     rt: &R,
     alloc: Global,

@@ -1,4 +1,4 @@
-//! Each write of a run fails in turn: what was written is the first of what the run prints.
+//! Each write of a run fails in turn: what was written is the first part of what the run prints.
 
 use crate::runs::{PRINTED, SMALL, STORE_AND_FETCH, Streams, expect_on, smooth};
 use apcu_play::Status;

@@ -1,4 +1,4 @@
-//! Reads and writes that fail, an input that is too long, and a program without words.
+//! Reads and writes that fail, an input that is too long, and a program without arguments.
 
 use crate::runs::{SMALL, STORE_AND_FETCH, Streams, expect_of, expect_on, smooth};
 use apcu_play::Status;

@@ -4,18 +4,18 @@ use io_edges::{Gate, Point};
 use std::alloc::{AllocError, Global};
 use std::sync::{Mutex, Wait};
 
-// How often a worker looks for the others before it gives up.
+// How often a worker checks for the others before it gives up.
 const TURNS: u32 = 100_000_000;
 
-// A worker that has come to a point.
+// A worker that has reached a point.
 type Come = (u32, Point);
 
-// For whom a worker waits.
+// What a worker waits for.
 #[derive(Clone, Copy)]
 pub(crate) enum Hold {
-    // One at a point waits until another one has come to a point of its own.
+    // One at a point waits until another one has reached a point of its own.
     Until(Come, Come),
-    // So many wait for one another at a point of each.
+    // This many wait for one another at a point of each.
     Meet(u32, Point),
 }
 
@@ -34,7 +34,7 @@ impl Hold {
         }
     }
 
-    // How many have to come.
+    // How many have to reach it.
     fn count(self) -> u32 {
         match self {
             Hold::Until(_, _) => 1,
@@ -43,8 +43,8 @@ impl Hold {
     }
 }
 
-// Holds workers, and notes who came to the points for which others wait. One that waits for too
-// long goes on, and that is noted too.
+// Holds workers, and notes which of them reached the points for which others wait. One that waits
+// for too long continues, and that is noted too.
 pub(crate) struct Holding<'a, R: Wait> {
     rt: &'a R,
     holds: &'a [Hold],
@@ -82,17 +82,17 @@ impl<'a, R: Wait> Holding<'a, R> {
         *self.given_up.lock(self.rt)
     }
 
-    // How often a worker has come to a point for which somebody waits.
+    // How often a worker has reached a point for which another one waits.
     pub(crate) fn comings(&self) -> usize {
         self.come.lock(self.rt).len()
     }
 
-    // Whether somebody waits for this.
+    // Whether a worker waits for this.
     fn is_awaited(&self, come: Come) -> bool {
         self.holds.iter().any(|hold| hold.waits_for(come))
     }
 
-    // Whether all have come for whom the hold waits.
+    // Whether all have reached the points that the hold waits for.
     fn is_let_go(&self, hold: Hold) -> bool {
         let mut count = 0u32;
         for come in self.come.lock(self.rt).as_slice() {

@@ -41,7 +41,7 @@ fn stores(scripts: &Scripts) -> u64 {
     count
 }
 
-// The summary: each of the eight counters is begun by one of the calls.
+// The summary: each of the eight counters is created by one of the calls.
 fn due(alloc: Global) -> Result<ByteOut, Fail> {
     const COUNTERS: [&[u8]; 8] = [b"c0", b"c1", b"c2", b"c3", b"c4", b"c5", b"c6", b"c7"];
     let scripts = generate(alloc, 7, 8, 20_000)?;

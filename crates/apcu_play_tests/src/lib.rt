@@ -1,5 +1,5 @@
-//! Tests of `apcu_play`: worked runs, each way in which a run can fail, and workers that are held at
-//! points of their scripts.
+//! Tests of `apcu_play`: worked runs, each way in which a run can fail, and workers that are held
+//! at points of their scripts.
 #![tactic(auto)]
 
 #[cfg(test)]

@@ -1,4 +1,4 @@
-//! What makes the regular expressions of patterns, and when it is asked.
+//! The maker of the regexes of patterns, and when it is called.
 
 use crate::gates::Hold::Meet;
 use crate::gates::Holding;
@@ -12,7 +12,7 @@ const BY_A_PATTERN: &[u8] = b"worker\n\
     apcu_store s:1:\"a\"; i:1;\n\
     APCUIterator_delete s:6:\"/^a$/i\";\n";
 
-// A maker that refuses each pattern has no part in a run without one.
+// A maker that refuses each pattern has no effect on a run without one.
 #[test]
 fn a_maker_that_refuses(rt: HostRuntime) -> Result<(), Fail> {
     let words = words_of(rt.alloc(), SMALL)?;

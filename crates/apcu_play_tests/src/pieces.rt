@@ -4,7 +4,7 @@ use notation::ByteOut;
 use std::alloc::Global;
 use std::test::Fail;
 
-// A piece of a text: these bytes, or so many times the letter z.
+// A piece of a text: these bytes, or this many times the letter z.
 #[derive(Clone, Copy)]
 pub(crate) enum Piece {
     Text(&'static [u8]),

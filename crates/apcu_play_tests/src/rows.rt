@@ -329,7 +329,7 @@ const BLOCKS: &[Row] = &[
         )],
         ..DONE
     },
-    // Two free blocks side by side are one, whichever was free first.
+    // Two adjacent free blocks are one, whichever was free first.
     Row {
         input: &[
             Text(b"worker\napcu_store s:1:\"a\"; s:1168:\""),
@@ -480,8 +480,8 @@ const EVENTS: &[Row] = &[
     },
 ];
 
-// Each row of a table ends as it says. The tables are small, since what the borrow checker proves of
-// a body grows with the constants that it names.
+// Each row of a table ends as it says. The tables are small, because what the borrow checker proves
+// of a body grows with the constants that it names.
 fn expect_rows<R: Threads + Wait + Sync + Abort>(
     rt: &R,
     alloc: Global,

@@ -1,4 +1,4 @@
-//! A run of the program, and what comes of it.
+//! A run of the program, and its result.
 
 use apcu_play::{Status, run};
 use io_edges::{Gate, MemSink, MemSource, NoGate};
@@ -87,8 +87,8 @@ impl Ended<'_> {
     }
 }
 
-// A run on these streams. It is the one place at which `run` is called: what a call of it keeps
-// until the end of a body makes the proof of that body long.
+// A run on these streams. It is the only call of `run`: what a call of it keeps until the end of a
+// body makes the proof of that body long.
 pub(crate) fn played<'a, R: Threads + Wait + Sync + Abort, M: Maker + Sync, G: Gate + Sync>(
     rt: &R,
     alloc: Global,

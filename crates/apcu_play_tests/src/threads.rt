@@ -25,7 +25,7 @@ struct Held {
     printed: &'static [Piece],
 }
 
-// Whether these pieces are printed, and behind them the ends of both workers.
+// Whether these pieces are printed, and after them the ends of both workers.
 fn ends_after(alloc: Global, pieces: &[Piece], printed: &[u8]) -> Result<bool, Fail> {
     let wanted = spelled(alloc, pieces)?;
     let ends = printed.strip_prefix(wanted.as_slice()).unwrap_or(&[]);
@@ -60,7 +60,7 @@ const WHILE_PINNED: &[Hold] = &[
     Until((0, Pinned(1)), (1, After(1))),
 ];
 
-// The same, and then worker 1 goes on once worker 0 has its reply.
+// The same, and then worker 1 continues once worker 0 has its reply.
 const PINNED_AND_AFTER: &[Hold] = &[
     Until((1, Before(0)), (0, Pinned(1))),
     Until((0, Pinned(1)), (1, After(1))),
@@ -68,7 +68,7 @@ const PINNED_AND_AFTER: &[Hold] = &[
     Until((0, After(1)), (1, After(2))),
 ];
 
-// A pinned block is given out again only after its copy.
+// A pinned block is handed out again only after its copy.
 const GIVEN_OUT_AFTER: Held = Held {
     scripts: &[
         Text(b"worker\napcu_store s:1:\"a\"; s:2000:\""),
@@ -139,7 +139,7 @@ const LISTED_AS_DELETED: Held = Held {
     ],
 };
 
-// The row gives way to another one of its key.
+// The row is replaced by another one of its key.
 const REPLACED: Held = Held {
     scripts: &[
         Text(b"worker\napcu_store s:1:\"a\"; s:2000:\""),
@@ -173,7 +173,7 @@ const CLEARED: Held = Held {
     ],
 };
 
-// The cache is expunged, and the value finds no room even so.
+// The cache is expunged, and there is no room for the value even so.
 const EXPUNGED: Held = Held {
     scripts: &[
         Text(b"worker\napcu_store s:1:\"a\"; s:2000:\""),
@@ -196,7 +196,7 @@ const PINNED_FOR_THREE: &[Hold] = &[
     Until((0, Pinned(1)), (1, After(2))),
 ];
 
-// The row's time is over, and a store in its slot drops it: it is listed as deleted.
+// The row has expired, and a store in its slot drops it: it is listed as deleted.
 const EXPIRED: Held = Held {
     scripts: &[
         Text(b"worker\napcu_store s:1:\"a\"; s:2000:\""),
@@ -231,7 +231,7 @@ fn a_copy_is_left_alone(rt: HostRuntime) -> Result<(), Fail> {
     Ok(())
 }
 
-// The workers make their calls in turn, worker 0 first. Played on one thread it is given up.
+// The workers make their calls in turn, worker 0 first. In a single thread the wait is given up.
 const IN_TURN: &[Hold] = &[
     Until((1, Before(0)), (0, After(0))),
     Until((0, Before(1)), (1, After(0))),
@@ -267,7 +267,7 @@ const BETWEEN_STEPS: &[Hold] = &[
     Until((1, After(0)), (0, After(3))),
 ];
 
-// A row that the walk has given is replaced.
+// A row that the walk has returned is replaced.
 const REPLACED_BEHIND_A_WALK: Held = Held {
     scripts: &[
         Text(b"worker\napcu_store s:1:\"a\"; i:1;\napcu_store s:1:\"A\"; i:1;\n"),
@@ -290,8 +290,8 @@ fn workers_meet(rt: HostRuntime) -> Result<(), Fail> {
     Ok(())
 }
 
-// The workers of a generated run wait for one another, each in front of a call. One that is played
-// behind another one, or not at all, comes alone or never.
+// The workers of a generated run wait for one another, each before a call. One that is played after
+// another one, or not at all, arrives alone or never.
 #[test]
 fn generated_workers_meet(rt: HostRuntime) -> Result<(), Fail> {
     let alloc = rt.alloc();
@@ -311,7 +311,7 @@ fn generated_workers_meet(rt: HostRuntime) -> Result<(), Fail> {
     Ok(())
 }
 
-// As many workers as may be, each of which stores what it fetches then.
+// As many workers as possible, each of which stores what it then fetches.
 #[test]
 fn as_many_workers_as_may_be(rt: HostRuntime) -> Result<(), Fail> {
     let alloc = rt.alloc();
