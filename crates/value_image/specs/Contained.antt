@@ -1,4 +1,4 @@
--- The graph that the content of an image stands for.
+-- The graph that the content of an image represents.
 use Rattle.std.specs.Prelude.{List, [], ◌∷◌}
 use Rattle.php_graph.specs.declared.kind.Kind.{Kind}
 use Rattle.php_graph.specs.declared.kind.Kind.TheVariants as kinds

@@ -23,7 +23,7 @@ abbrev pub key_words : Key → List ℕ
 key_words (keys.Int n) = 2 ∷ cast_unsigned w64 n ∷ []
 key_words (keys.Str bytes) = string_words bytes
 
--- What a member holds: twice the offset of the place that it names, plus one where it shares that
+-- What a member holds: twice the offset of the place that it names, plus one if it shares that
 -- place.
 abbrev pub child_word : (ℕ → ℕ) → Child → ℕ
 child_word offset (Own x) = 2 * offset x
@@ -37,8 +37,8 @@ member_words offset m = child_word offset m.1 ∷ key_words m.0
 abbrev pub property_words : (ℕ → ℕ) → List ℕ × Child → List ℕ
 property_words offset p = child_word offset p.1 ∷ string_words p.0
 
--- What stands at a place, where the places have these offsets. The first word is a tag: the kind's
--- code from 0 to 6, plus eight times a truth value, a length in bytes, or a number of members.
+-- What is at a place, with these offsets of the places. The first word is a tag: the kind's code
+-- from 0 to 6, plus eight times a boolean, a length in bytes, or a number of members.
 abbrev pub kind_words : (ℕ → ℕ) → Kind → List ℕ
 kind_words offset kinds.Null = 0 ∷ []
 kind_words offset (kinds.Bool b) = (1 + 8 * (if b then 1 else 0)) ∷ []
@@ -57,8 +57,8 @@ place_words g kind = kind_words (offset_of g) kind
 unfoldable pub image_of : List Kind → List ℕ
 image_of g = flat_map (place_words g) g
 
--- The len words from place `at` on are the image of the graph: so many words it takes, and at each
--- place's offset stand that place's words.
+-- The len words from place `at` on are the image of the graph: it takes this many words, and each
+-- place's words are at the place's offset.
 pub record IsImageOf (row : List ℕ) (at len : ℕ) (g : List Kind) : Type 0 where
   pub graph : IsGraph g
   pub length_is : len ≡ image_length g

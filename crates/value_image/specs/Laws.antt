@@ -1,4 +1,4 @@
--- The laws of this crate, as records that callers hand on.
+-- The laws of this crate, as records that callers pass on.
 use Rattle.php_graph.specs.ByteStrings.{AreBytes}
 use Rattle.php_graph.specs.Graph.{IsGraph}
 use Rattle.php_graph.specs.Size.{image_length}
@@ -35,7 +35,7 @@ pub record RunsAreWritten : Type 0 where
       → MayWrite row windows at (length run) → MayStore row windows i
       → MayStore (written row at run) windows i
 
--- how a run stands in words
+-- how a run is in words
 pub record RunsStand : Type 0 where
   pub words : (row : List ℕ) (at : ℕ) (run : List ℕ) (i : ℕ) → StandsAt row at run
       → i < length run → slice_index row (at + i) ≡ slice_index run i

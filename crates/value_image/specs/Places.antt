@@ -19,7 +19,7 @@ abbrev pub AllNamePlaces : {A : Type 0} → ℕ → List (A × Child) → Type 0
 AllNamePlaces {A = A} n ms =
     (i : ℕ) (m : A × Child) → slice_get ms i ≡ Some m → IsPlaceOf n (number_of m.1)
 
--- each number in what stands at a place is one of n places
+-- each number in what is at a place is one of n places
 abbrev pub NamesPlaces : ℕ → Kind → Type 0
 NamesPlaces n (kinds.Array ms) = AllNamePlaces n ms
 NamesPlaces n (kinds.Object class ps) = AllNamePlaces n ps

@@ -1,5 +1,5 @@
--- What is read of an image before its places have numbers: where a graph has a place's number,
--- there is an offset.
+-- What is read of an image before its places have numbers: an offset replaces each place's number
+-- of the graph.
 use Rattle.std.specs.Prelude.{◌≡◌, ℕ, ◌<◌, ◌≤◌, ◌^◌, List, ◌++◌, length, map, slice_index}
 use Rattle.std.specs.Prelude.{◌+◌, Option, Some, None, slice_get, FitsSigned}
 use Rattle.std.specs.List.{flat_map, AllByRecursion}
@@ -34,7 +34,7 @@ renumbered_kind f (kinds.Object class ps) = kinds.Object class (map (renumbered_
 renumbered_kind f (kinds.Same x) = kinds.Same (f x)
 renumbered_kind f kind = kind
 
--- an offset as it stands
+-- an offset as it is
 abbrev pub itself : ℕ → ℕ
 itself x = x
 
@@ -44,7 +44,7 @@ IsTableOf table g =
     (k : ℕ) → 1 ≤ k → k ≤ length g
     → (offset_of g k < length table) × (slice_index table (offset_of g k) ≡ k)
 
--- ---- what stands in a row
+-- ---- what is in a row
 
 abbrev pub FitsMember : Key × Child → Type 0
 FitsMember m = FitsKey m.0 × (number_of m.1 < 2 ^ 32)
@@ -61,46 +61,46 @@ FitsRead (kinds.Object class ps) = AreBytes class × AllByRecursion FitsProperty
 FitsRead (kinds.Same x) = x < 2 ^ 32
 FitsRead _ = Unit {0}
 
--- a byte string stands in the row, and is told
+-- a byte string is in the row, and is told
 pub record IsStringAt (row windows : List ℕ) (at : ℕ) (bytes : List ℕ) : Type 0 where
   pub told : IsToldAt row windows at (string_words bytes)
   pub fits : AreBytes bytes
 
--- so does a key
+-- the same for a key
 pub record IsKeyAt (row windows : List ℕ) (at : ℕ) (key : Key) : Type 0 where
   pub told : IsToldAt row windows at (key_words key)
   pub fits : FitsKey key
 
--- so does a member of an array, with an offset
+-- the same for a member of an array, with an offset
 pub record IsMemberAt (row windows : List ℕ) (at : ℕ) (m : Key × Child) : Type 0 where
   pub told : IsToldAt row windows at (member_words itself m)
   pub fits : FitsMember m
 
--- so does a property of an object, with an offset
+-- the same for a property of an object, with an offset
 pub record IsPropertyAt (row windows : List ℕ) (at : ℕ) (p : List ℕ × Child) : Type 0 where
   pub told : IsToldAt row windows at (property_words itself p)
   pub fits : FitsProperty p
 
--- so do all members of an array
+-- the same for all members of an array
 pub record AreMembersAt (row windows : List ℕ) (at count : ℕ) (ms : List (Key × Child))
     : Type 0 where
   pub told : IsToldAt row windows at (flat_map (member_words itself) ms)
   pub fits : AllByRecursion FitsMember ms
   pub count_is : count ≡ length ms
 
--- so do all properties of an object
+-- the same for all properties of an object
 pub record ArePropertiesAt (row windows : List ℕ) (at count : ℕ) (ps : List (List ℕ × Child))
     : Type 0 where
   pub told : IsToldAt row windows at (flat_map (property_words itself) ps)
   pub fits : AllByRecursion FitsProperty ps
   pub count_is : count ≡ length ps
 
--- so does a place, with offsets
+-- the same for a place, with offsets
 pub record IsKindAt (row windows : List ℕ) (at : ℕ) (kind : Kind) : Type 0 where
   pub told : IsToldAt row windows at (kind_words itself kind)
   pub fits : FitsRead kind
 
--- so do the class and the properties of an object
+-- the same for the class and the properties of an object
 pub record IsObjectAt (row windows : List ℕ) (at count : ℕ) (class : List ℕ)
     (ps : List (List ℕ × Child)) : Type 0 where
   pub told : IsToldAt row windows at (string_words class ++ flat_map (property_words itself) ps)
@@ -108,7 +108,7 @@ pub record IsObjectAt (row windows : List ℕ) (at count : ℕ) (class : List �
   pub fits : AllByRecursion FitsProperty ps
   pub count_is : count ≡ length ps
 
--- null, a truth value or an integer that stands at a place, and the place behind it
+-- null, a boolean or an integer that is at a place, and the place after it
 abbrev pub scalar_at : ℕ → Kind → Option (Kind × ℕ)
 scalar_at at kinds.Null = Some (kinds.Null, at + 1)
 scalar_at at (kinds.Bool b) = Some (kinds.Bool b, at + 1)
@@ -127,7 +127,7 @@ IsBelow n (kinds.Object class ps) = AllBelow n ps
 IsBelow n (kinds.Same x) = x < n
 IsBelow n _ = Unit {0}
 
--- what was read is the graph with offsets in place of numbers, and the offsets of its places
+-- what was read is the graph with offsets instead of numbers, and the offsets of its places
 pub record IsReadOf (places : List Kind) (offsets : List ℕ) (len : ℕ) (g : List Kind) : Type 0 where
   pub graph : IsGraph g
   pub places_are : places ≡ map (renumbered_kind (offset_of g)) g

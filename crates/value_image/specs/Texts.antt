@@ -6,7 +6,7 @@ use Rattle.php_graph.specs.declared.kind.Kind.TheVariants as kinds
 use Rattle.seg_words.specs.Blocks.{IsTold}
 use Rattle.value_image.specs.Image.{IsImageOf}
 
--- the graph's image stands at place `at`, and each of its words is told
+-- the graph's image is at place `at`, and each of its words is told
 pub record IsToldImage (row windows : List ℕ) (at : ℕ) (g : List Kind) : Type 0 where
   pub image : IsImageOf row at (image_length g) g
   pub told : (i : ℕ) → at ≤ i → i < at + image_length g → IsTold windows i

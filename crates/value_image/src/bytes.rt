@@ -55,8 +55,8 @@ fn few_bytes(bytes: &[u8]) -> u64
     low + u64::from(bytes[2]) * 0x1_0000
 }
 
-// The word of fewer than eight bytes. To gather them into eight bytes first takes longer than to
-// read four of them, two and one.
+// The word of fewer than eight bytes. Gathering them into eight bytes first takes longer than
+// reading four of them, two and one.
 fn short_word(bytes: &[u8]) -> u64
     requires { length bytes.now < 8 }
     ensures { result ≡ little_number 8 bytes.now }
@@ -69,7 +69,7 @@ fn short_word(bytes: &[u8]) -> u64
 }
 
 /// The word of the eight bytes from byte `8 * i` on, the first byte lowest; past the end they are
-/// 0. Where fewer are left, the last eight of all bytes are read at once, and those before shifted
+/// 0. If fewer are left, the last eight of all bytes are read at once, and those before are shifted
 /// out.
 pub fn byte_word(bytes: &[u8], i: u32) -> u64
     requires { i < words_in (length bytes.now) }
@@ -86,8 +86,8 @@ pub fn byte_word(bytes: &[u8], i: u32) -> u64
 }
 
 /// Fills the buffer with the bytes of the words from place `at` on. It takes no memory. Each word
-/// is loaded once, eight at a time while there are eight, so that they are written without a look
-/// at where the words are in between.
+/// is loaded once, eight at a time while there are eight, so that the place of the words is not
+/// read again between the writes.
 pub fn get_bytes<W: WordsIn>(from: &mut W, at: u32, out: &mut [u8])
     requires inside { at + words_in (length out.old) ≤ length (W.words from.old) }
     requires told { (i : ℕ) → at ≤ i → i < at + words_in (length out.old)
@@ -159,9 +159,9 @@ fn push_eight(out: &mut Vec<u8>, words: &[u64; 8])
     }
 }
 
-// Appends so many bytes of the words from place `at` on. There is room for them. Each word is
-// loaded once, eight at a time while there are eight, and goes from there into the memory that is
-// handed out. The memory comes by value: where its length is known to nobody else, the bytes of a
+// Appends `len` bytes of the words from place `at` on. There is room for them. Each word is
+// loaded once, eight at a time while there are eight, and stored directly into the memory that is
+// returned. The memory is passed by value: if nothing else refers to its length, the bytes of a
 // word become a single store.
 #[inline(always)]
 pub(crate) fn push_bytes<W: WordsIn>(out: Vec<u8>, from: &mut W, at: u32, len: u32) -> Vec<u8>
@@ -189,7 +189,7 @@ pub(crate) fn push_bytes<W: WordsIn>(out: Vec<u8>, from: &mut W, at: u32, len: u
     bytes
 }
 
-// So many bytes of the words from place `at` on.
+// The first `len` bytes of the words from place `at` on.
 pub(crate) fn bytes_at<W: WordsIn>(
     alloc: Global,
     from: &mut W,

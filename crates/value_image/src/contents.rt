@@ -1,4 +1,4 @@
-//! What an image is made of: a graph, or a byte string of which no graph is made.
+//! The content of an image: a graph, or a byte string without a graph.
 
 ghost use Rattle.std.specs.Prelude.{◌≡◌, ◌<◌, ◌^◌, [], ◌∷◌, length};
 ghost use Rattle.php_graph.specs.declared.kind.Kind.TheVariants.{Str};
@@ -14,16 +14,16 @@ use crate::write_members::put_text;
 use php_graph::Graph;
 use seg_words::{HEAD_WORDS, Segment, words_in};
 
-/// What an image is made of. A byte string stands for the graph that has it as its only place.
+/// The content of an image. A byte string stands for the graph that has it as its only place.
 #[derive(Clone, Copy, Drop)]
 pub enum Content<'a> {
     /// The places of a graph.
     Graph(&'a Graph),
-    /// A byte string, of which no graph is made.
+    /// A byte string, without a graph.
     Text(&'a [u8]),
 }
 
-/// A byte string as what an image is made of.
+/// A byte string as the content of an image.
 pub fn text_content(bytes: &[u8]) -> Content<'_>
     requires short { length bytes.now < 2 ^ 32 }
     ensures text { graph_of result ≡ Str bytes.now ∷ [] }

@@ -1,4 +1,4 @@
-//! The numbers of places, in place of their offsets.
+//! The numbers of places, which replace their offsets.
 
 ghost use Rattle.std.specs.Prelude.{◌≡◌, ℕ, ◌+◌, ◌<◌, ◌^◌, ◌∷◌, List, length, map, slice_index};
 ghost use Rattle.std.specs.Prelude.{slice_get, Some, IfOk, OnOk};
@@ -44,7 +44,7 @@ fn renumber_properties(props: &mut Props, table: &[u32])
     }
 }
 
-// Gives what stands at a place its numbers.
+// Gives what is at a place its numbers.
 fn renumber_place(kind: &mut Kind, table: &[u32])
     requires { IsBelow (length table.now) kind.old }
     ensures { kind.new ≡ renumbered_kind (slice_index table.now) kind.old }
@@ -70,7 +70,7 @@ fn renumber_places(places: &mut Vec<Place>, table: &[u32])
     }
 }
 
-// The offset of a place but the first, which has the offset 0.
+// The offset of a place except the first, which has the offset 0.
 fn offset_at(others: &[Place], i: usize) -> u64
     requires { i < length others.now }
     ensures { result ≡ slice_index (0 ∷ offsets_at others.now) (i + 1) }
@@ -78,7 +78,7 @@ fn offset_at(others: &[Place], i: usize) -> u64
     others[i].at
 }
 
-// A table of so many words that has the number of each place, from 1, at the place's offset.
+// A table of `len` words that has the number of each place, from 1, at the place's offset.
 fn table_of(alloc: Global, others: &[Place], len: u32) -> Result<Vec<u32>, AllocError>
     requires few { length others.now + 1 < 2 ^ 32 }
     requires below { (i : ℕ) → i < length others.now + 1

@@ -20,7 +20,7 @@ use php_graph::{Bytes, Graph, Kind, Place, Props};
 use seg_words::WordsIn;
 use std::alloc::{AllocError, Global};
 
-// The class and the properties of an object from place `at` on, and the place behind them.
+// The class and the properties of an object from place `at` on, and the place after them.
 fn read_object<W: WordsIn>(
     alloc: Global,
     from: &mut W,
@@ -41,7 +41,7 @@ fn read_object<W: WordsIn>(
     Ok((class, props, next))
 }
 
-// Null, a truth value or an integer at place `at`, whose tag was read, and the place behind it.
+// Null, a boolean or an integer at place `at`, whose tag was read, and the place after it.
 #[inline(always)]
 fn read_scalar<W: WordsIn>(from: &mut W, at: u32, tag: u64) -> Option<(Kind, u32)>
     requires { (kind : Kind) × IsKindAt (W.words from.old) (W.aside from.old).windows at kind
@@ -61,7 +61,7 @@ fn read_scalar<W: WordsIn>(from: &mut W, at: u32, tag: u64) -> Option<(Kind, u32
     }
 }
 
-// What stands at place `at`, with offsets in place of numbers, and the place behind it.
+// What is at place `at`, with offsets instead of numbers, and the place after it.
 fn read_place<W: WordsIn>(alloc: Global, from: &mut W, at: u32) -> Result<(Kind, u32), AllocError>
     requires { (kind : Kind) × IsKindAt (W.words from.old) (W.aside from.old).windows at kind }
     ensures place { (kind : Kind) → IsKindAt (W.words from.old) (W.aside from.old).windows at kind
@@ -93,7 +93,7 @@ fn read_place<W: WordsIn>(alloc: Global, from: &mut W, at: u32) -> Result<(Kind,
 }
 
 // The first place and the others of the image that the `len` words from place `at` on are, with
-// offsets in place of numbers, and the offset of each.
+// offsets instead of numbers, and the offset of each.
 fn read_places<W: WordsIn>(
     alloc: Global,
     from: &mut W,
@@ -121,8 +121,8 @@ fn read_places<W: WordsIn>(
     Ok((first, others))
 }
 
-/// The graph whose image the `len` words from place `at` on are. It fails only for want of memory.
-/// A value of one place, as a string, is answered at once.
+/// The graph whose image the `len` words from place `at` on are. Out of memory is the only error. A
+/// value of one place, such as a string, is returned at once.
 pub fn unpersist<W: WordsIn>(
     alloc: Global,
     from: &mut W,

@@ -1,4 +1,4 @@
-//! What containers hold, from words.
+//! What containers hold, read from words.
 
 ghost use Rattle.std.specs.Prelude.{◌≡◌, ℕ, ◌+◌, ◌*◌, ◌<◌, ◌^◌, ◌≤◌, List, length, take, drop};
 ghost use Rattle.std.specs.Prelude.{sum_by, IfOk};
@@ -22,7 +22,7 @@ use std::alloc::{AllocError, Global};
 // The most bytes that a string holds without a block of memory.
 const SHORT: usize = 14;
 
-// So many bytes of the words from place `at` on. No block is taken for a string that needs none.
+// `len` bytes of the words from place `at` on. No block is allocated for a string that needs none.
 fn read_bytes<W: WordsIn>(
     alloc: Global,
     from: &mut W,
@@ -45,7 +45,7 @@ fn read_bytes<W: WordsIn>(
     Ok(Bytes::from_vec(bytes))
 }
 
-// The byte string at place `at`, whose tag was read, and the place behind it.
+// The byte string at place `at`, whose tag was read, and the place after it.
 pub(crate) fn read_text<W: WordsIn>(
     alloc: Global,
     from: &mut W,
@@ -65,7 +65,7 @@ pub(crate) fn read_text<W: WordsIn>(
     Ok((bytes, at + 1 + words_in(len)))
 }
 
-// The byte string at place `at`, and the place behind it.
+// The byte string at place `at`, and the place after it.
 pub(crate) fn read_string<W: WordsIn>(
     alloc: Global,
     from: &mut W,
@@ -82,7 +82,7 @@ pub(crate) fn read_string<W: WordsIn>(
     read_text(alloc, from, at, tag)
 }
 
-// The key at place `at`, and the place behind it.
+// The key at place `at`, and the place after it.
 pub(crate) fn read_key<W: WordsIn>(
     alloc: Global,
     from: &mut W,
@@ -102,7 +102,7 @@ pub(crate) fn read_key<W: WordsIn>(
     Ok((Key::Str(bytes), next))
 }
 
-// The member that a word says, with an offset in place of the number.
+// The member of a word, with an offset instead of the number.
 fn child_in(word: u64) -> Child
     requires { word < 2 ^ 33 }
     ensures { (child : Child) → word ≡ child_word itself child → result ≡ child }
@@ -115,7 +115,7 @@ fn child_in(word: u64) -> Child
     }
 }
 
-// The member at place `at`, and the place behind it.
+// The member at place `at`, and the place after it.
 fn read_member<W: WordsIn>(
     alloc: Global,
     from: &mut W,
@@ -132,7 +132,7 @@ fn read_member<W: WordsIn>(
     Ok((key, child, next))
 }
 
-// So many members from place `at` on, and the place behind them.
+// This many members from place `at` on, and the place after them.
 pub(crate) fn read_members<W: WordsIn>(
     alloc: Global,
     from: &mut W,
@@ -156,7 +156,7 @@ pub(crate) fn read_members<W: WordsIn>(
     Ok((Members::from_vec(items), next))
 }
 
-// The property at place `at`, and the place behind it.
+// The property at place `at`, and the place after it.
 fn read_property<W: WordsIn>(
     alloc: Global,
     from: &mut W,
@@ -174,7 +174,7 @@ fn read_property<W: WordsIn>(
     Ok((name, child, next))
 }
 
-// So many properties from place `at` on, and the place behind them.
+// This many properties from place `at` on, and the place after them.
 pub(crate) fn read_properties<W: WordsIn>(
     alloc: Global,
     from: &mut W,

@@ -1,4 +1,4 @@
-//! The bytes of a string, out of its image and without its graph.
+//! The bytes of a string, read from its image without its graph.
 
 ghost use Rattle.std.specs.Prelude.{◌≡◌, ◌+◌, ◌≤◌, ◌++◌, ℕ, List, Some, length};
 ghost use Rattle.std.specs.Prelude.{vec_len, vec_capacity};
@@ -11,7 +11,7 @@ use crate::bytes::push_bytes;
 use crate::write_members::STR;
 use seg_words::WordsIn;
 
-/// How many bytes the value has whose image stands at place `at`, where it is a string.
+/// The number of bytes of the value whose image is at place `at`, if it is a string.
 pub fn string_len<W: WordsIn>(from: &mut W, at: u32) -> Option<u32>
     requires image { (g : List Kind)
         × IsToldImage (W.words from.old) (W.aside from.old).windows at g }
@@ -28,8 +28,8 @@ pub fn string_len<W: WordsIn>(from: &mut W, at: u32) -> Option<u32>
     }
 }
 
-/// Appends the bytes of the string whose image stands at place `at`, and which has `len` of them.
-/// There is room for them.
+/// Appends the bytes of the string whose image is at place `at`, and which has `len` of them. There
+/// is room for them.
 pub fn push_string<W: WordsIn>(out: Vec<u8>, from: &mut W, at: u32, len: u32) -> Vec<u8>
     requires room { vec_len out + len ≤ vec_capacity out }
     requires string { (g : List Kind) × (bytes : List ℕ)

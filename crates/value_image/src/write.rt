@@ -14,7 +14,7 @@ use crate::write_members::{INT, put_members, put_one, put_properties, put_string
 use php_graph::{Bytes, Graph, Kind, Members, Props};
 use seg_words::Segment;
 
-/// The tag of null. A tag is the first word of what stands at a place.
+/// The tag of null. A tag is the first word of a place.
 pub const NULL: u64 = 0;
 /// The tag of `false`; that of `true` is 8 more.
 pub const BOOL: u64 = 1;
@@ -25,7 +25,7 @@ pub(crate) const OBJECT: u64 = 5;
 // The tag of a place that names an object.
 const SAME: u64 = 6;
 
-// Writes an array, and gives the place behind it.
+// Writes an array, and returns the place after it.
 fn put_array<S: Segment>(seg: &mut S, at: u32, g: &Graph, members: &Members) -> u32
     requires places { AllNamePlaces (length g.now) members.now }
     requires short { image_length g.now < 2 ^ 32 }
@@ -40,7 +40,7 @@ fn put_array<S: Segment>(seg: &mut S, at: u32, g: &Graph, members: &Members) -> 
     put_members(seg, next, g, members)
 }
 
-// Writes an object, and gives the place behind it.
+// Writes an object, and returns the place after it.
 fn put_object<S: Segment>(seg: &mut S, at: u32, g: &Graph, class: &Bytes, props: &Props) -> u32
     requires places { AllNamePlaces (length g.now) props.now }
     requires short { image_length g.now < 2 ^ 32 }
@@ -58,7 +58,7 @@ fn put_object<S: Segment>(seg: &mut S, at: u32, g: &Graph, class: &Bytes, props:
     put_properties(seg, second, g, props)
 }
 
-// Writes what stands at a place of the graph, and gives the place behind it.
+// Writes what is at a place of the graph, and returns the place after it.
 fn put_place<S: Segment>(seg: &mut S, at: u32, g: &Graph, kind: &Kind) -> u32
     requires places { NamesPlaces (length g.now) kind.now }
     requires short { image_length g.now < 2 ^ 32 }

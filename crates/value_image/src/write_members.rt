@@ -14,12 +14,12 @@ use crate::bytes::put_bytes;
 use php_graph::{Bytes, Child, Graph, Key, Members, Props};
 use seg_words::{Segment, words_in};
 
-/// The tag of an integer, which stands in the word behind it as its two's complement.
+/// The tag of an integer, whose two's complement is in the word after it.
 pub const INT: u64 = 2;
 // The tag of an empty byte string.
 pub(crate) const STR: u64 = 3;
 
-// Writes a word, and gives the place behind it.
+// Writes a word, and returns the place after it.
 pub(crate) fn put_one<S: Segment>(seg: &mut S, at: u32, word: u64) -> u32
     requires { MayWrite (S.words seg.old) (S.aside seg.old).windows at 1 }
     ensures words { S.words seg.new ≡ written (S.words seg.old) at (word ∷ []) }
@@ -30,7 +30,7 @@ pub(crate) fn put_one<S: Segment>(seg: &mut S, at: u32, word: u64) -> u32
     at + 1
 }
 
-// Writes two words, and gives the place behind them.
+// Writes two words, and returns the place after them.
 pub(crate) fn put_two<S: Segment>(seg: &mut S, at: u32, first: u64, second: u64) -> u32
     requires { MayWrite (S.words seg.old) (S.aside seg.old).windows at 2 }
     ensures words { S.words seg.new ≡ written (S.words seg.old) at (first ∷ second ∷ []) }
@@ -41,7 +41,7 @@ pub(crate) fn put_two<S: Segment>(seg: &mut S, at: u32, first: u64, second: u64)
     put_one(seg, next, second)
 }
 
-// Writes a byte string, and gives the place behind it.
+// Writes a byte string, and returns the place after it.
 pub(crate) fn put_text<S: Segment>(seg: &mut S, at: u32, bytes: &[u8]) -> u32
     requires short { length bytes.now < 2 ^ 32 }
     requires apart { MayWrite (S.words seg.old) (S.aside seg.old).windows at
@@ -55,7 +55,7 @@ pub(crate) fn put_text<S: Segment>(seg: &mut S, at: u32, bytes: &[u8]) -> u32
     next + words_in(bytes.len() as u32)
 }
 
-// Writes a byte string of a graph, and gives the place behind it.
+// Writes a byte string of a graph, and returns the place after it.
 pub(crate) fn put_string<S: Segment>(seg: &mut S, at: u32, bytes: &Bytes) -> u32
     requires { MayWrite (S.words seg.old) (S.aside seg.old).windows at
         (1 + words_in (length bytes.now)) }
@@ -66,7 +66,7 @@ pub(crate) fn put_string<S: Segment>(seg: &mut S, at: u32, bytes: &Bytes) -> u32
     put_text(seg, at, bytes.as_slice())
 }
 
-// Writes a key of an array, and gives the place behind it.
+// Writes a key of an array, and returns the place after it.
 pub(crate) fn put_key<S: Segment>(seg: &mut S, at: u32, key: &Key) -> u32
     requires { MayWrite (S.words seg.old) (S.aside seg.old).windows at (key_cells key.now) }
     ensures words { S.words seg.new ≡ written (S.words seg.old) at (key_words key.now) }
@@ -79,7 +79,7 @@ pub(crate) fn put_key<S: Segment>(seg: &mut S, at: u32, key: &Key) -> u32
     }
 }
 
-// The word that says what a member holds.
+// The word of what a member holds.
 fn child_word(g: &Graph, child: Child) -> u64
     requires place { IsPlaceOf (length g.now) (number_of child) }
     requires short { image_length g.now < 2 ^ 32 }
@@ -91,7 +91,7 @@ fn child_word(g: &Graph, child: Child) -> u64
     }
 }
 
-// Writes a member of an array, and gives the place behind it.
+// Writes a member of an array, and returns the place after it.
 fn put_member<S: Segment>(seg: &mut S, at: u32, g: &Graph, key: &Key, child: Child) -> u32
     requires place { IsPlaceOf (length g.now) (number_of child) }
     requires short { image_length g.now < 2 ^ 32 }
@@ -106,7 +106,7 @@ fn put_member<S: Segment>(seg: &mut S, at: u32, g: &Graph, key: &Key, child: Chi
     put_key(seg, next, key)
 }
 
-// Writes the members of an array, and gives the place behind them.
+// Writes the members of an array, and returns the place after them.
 pub(crate) fn put_members<S: Segment>(seg: &mut S, at: u32, g: &Graph, members: &Members) -> u32
     requires places { AllNamePlaces (length g.now) members.now }
     requires short { image_length g.now < 2 ^ 32 }
@@ -125,7 +125,7 @@ pub(crate) fn put_members<S: Segment>(seg: &mut S, at: u32, g: &Graph, members: 
     next
 }
 
-// Writes a property of an object, and gives the place behind it.
+// Writes a property of an object, and returns the place after it.
 fn put_property<S: Segment>(seg: &mut S, at: u32, g: &Graph, name: &Bytes, child: Child) -> u32
     requires place { IsPlaceOf (length g.now) (number_of child) }
     requires short { image_length g.now < 2 ^ 32 }
@@ -140,7 +140,7 @@ fn put_property<S: Segment>(seg: &mut S, at: u32, g: &Graph, name: &Bytes, child
     put_string(seg, next, name)
 }
 
-// Writes the properties of an object, and gives the place behind them.
+// Writes the properties of an object, and returns the place after them.
 pub(crate) fn put_properties<S: Segment>(seg: &mut S, at: u32, g: &Graph, props: &Props) -> u32
     requires places { AllNamePlaces (length g.now) props.now }
     requires short { image_length g.now < 2 ^ 32 }
