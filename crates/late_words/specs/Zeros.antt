@@ -3,11 +3,11 @@ use Rattle.std.specs.Prelude.{ℕ, ◌-◌, ◌^◌, ◌<◌, ◌≤◌, List, �
 use Rattle.std.proofs.Common.{◌≡◌, arith}
 use Rattle.std.proofs.lemmas.List.{length-append, length-replicate}
 
--- so many words: those that were written, and zeros behind them
+-- this many words: those that were written, and zeros after them
 abbrev pub with_zeros : List ℕ → ℕ → List ℕ
 with_zeros written len = written ++ replicate (len - length written) 0
 
--- how many they are
+-- their number
 pub length_with : (written : List ℕ) (len : ℕ) → length written ≤ len
     → length (with_zeros written len) ≡ len
 length_with written len within =

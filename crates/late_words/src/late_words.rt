@@ -1,4 +1,4 @@
-//! Words in memory of which those behind the last stored one are 0.
+//! Words in memory of which those after the last stored one are 0.
 
 ghost use Rattle.std.specs.Prelude.{◌≡◌, ℕ, ◌-◌, ◌<◌, ◌≤◌, ◌^◌, ◌++◌, length, replicate, IfOk};
 ghost use Rattle.std.specs.Prelude.{vec_capacity, vec_len, []};
@@ -9,15 +9,15 @@ ghost use Rattle.late_words.specs.Zeros.{with_zeros, short_with};
 use seg_words::{Segment, WordsIn};
 use std::alloc::{AllocError, Global};
 
-/// Words in memory, which nobody else copies: no window is ever open.
+/// Words in memory that no worker copies: no window is ever open.
 ///
-/// Memory for all of them is taken at once, and no call moves the words to other memory. Those
-/// behind the last one that was stored are 0, and their memory is neither read nor written.
+/// Memory for all of them is allocated at once, and no call moves the words to other memory. Those
+/// after the last one that was stored are 0, and their memory is neither read nor written.
 #[derive(Drop)]
 pub struct LateWords {
     // The words up to the last one that was stored.
     written: Vec<u64>,
-    // How many words there are.
+    // The number of words.
     len: u32,
     ghost within: { length written.items ≤ len },
     ghost room: { len ≤ vec_capacity written },
@@ -25,7 +25,7 @@ pub struct LateWords {
 }
 
 impl LateWords {
-    /// `len` words, each 0. None of them is written.
+    /// `len` words of 64 bits, each 0. None of them is written.
     pub fn new(alloc: Global, len: u32) -> Result<LateWords, AllocError>
         ensures words { IfOk result (λ v. ⟦<LateWords as WordsIn>⟧.words v ≡ replicate len 0) }
         ensures unwritten { IfOk result (λ v. v.written.items ≡ []) }
@@ -34,8 +34,8 @@ impl LateWords {
         Ok(LateWords { written, len })
     }
 
-    // Writes zeros up to the word at `at`. There is memory for them, so none is taken. It is apart
-    // so that a store among words that are written is inlined.
+    // Writes zeros up to the word at `at`. Their memory is already allocated. It is a function of
+    // its own so that a store among words that are written is inlined.
     #[cold]
     #[inline(never)]
     fn pad(&mut self, at: usize)
@@ -135,14 +135,14 @@ impl Segment for LateWords {
     }
 }
 
-/// Words of which those behind the first ones are 0, on loan for one call that writes none of them.
+/// Words of which those after the first ones are 0, borrowed for one call that writes none of them.
 ///
-/// Others may read the words at the same time. No window is ever open.
+/// Other callers may read the words at the same time. No window is ever open.
 #[derive(Drop)]
 pub struct LentWords<'a> {
     // The first words.
     written: &'a [u64],
-    // How many words there are.
+    // The number of words.
     len: u32,
     ghost within: { length written.now ≤ len },
     ghost short: { len < 2 ^ 32 },
