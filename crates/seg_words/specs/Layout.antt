@@ -1,4 +1,4 @@
--- How long things are in words.
+-- Lengths in words.
 use Rattle.std.specs.Prelude.{ℕ, ◌+◌, ◌/◌}
 
 -- the words of n bytes, eight a word

@@ -46,7 +46,7 @@ counted_some p (y ∷ ys) x c h = elim (Contains-cases y ys x c) [
   | inr later ↦ omega (arith, count-cons p y ys, counted_some p ys x later h)
 ]
 
--- and what is counted is there
+-- and what is counted is a member
 pub counted_there : {X : Type 0} (p : X → Bool) (xs : List X) → 1 ≤ count_by p xs
     → (x : X) × Contains xs x × (p x ≡ true)
 counted_there p [] h = absurd (omega arith)
@@ -58,7 +58,7 @@ counted_there p (y ∷ ys) h = elim (cases_Bool (p y)) [
       (r.0, Contains-later y ys r.0 r.1, r.2)
 ]
 
--- what a map makes of a member, and whence a member of it comes
+-- the image of a member under a map, and where a member of the image comes from
 pub Contains-map : {X Y : Type 0} (f : X → Y) (xs : List X) (x : X) → Contains xs x
     → Contains (map f xs) (f x)
 Contains-map f [] x c = absurd (none_in_nil x c)
@@ -84,7 +84,7 @@ flat_there f (x ∷ xs) y c = elim (Contains-append_cases (f x) (flat_map f xs) 
   | inr later ↦ flat_there f xs y later
 ]
 
--- a member of what a test keeps passes it, and the other way round
+-- a member of what a test keeps passes it, and the converse
 pub Contains-filter : {X : Type 0} (p : X → Bool) (xs : List X) (x : X)
     → Contains (filter p xs) x → Contains xs x × (p x ≡ true)
 Contains-filter p [] x c = absurd (none_in_nil x c)
@@ -139,7 +139,7 @@ any_from p (y ∷ ys) x c h = elim (Contains-cases y ys x c) [
   | inr later ↦ or_right (p y) (list_any p ys) (any_from p ys x later h)
 ]
 
--- what is not counted is not there
+-- what is not counted is no member
 pub none_counted : {X : Type 0} (p : X → Bool) (xs : List X) → count_by p xs ≤ 0
     → list_any p xs ≡ false
 none_counted p xs h =
@@ -180,7 +180,7 @@ filter_then p q (x ∷ xs) = go (p x) (filter_then p q xs)
     go true e = ap (λ l. cond (q x) (x ∷ l) l) e
     go false e = e
 
--- whether a place is among some, as std's search tells it
+-- whether a place is in a list, by std's search
 flip : (a b : ℕ) → (a == b) ≡ (b == a)
 flip a b = elim (cases_Bool (a == b)) [
   | inl t ↦ t ∙ sym (eq-eqb b a (sym (eqb-true a b t)))

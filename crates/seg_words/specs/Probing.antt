@@ -1,4 +1,4 @@
--- What the probes of an event do to what is kept beside the words, and what they decide.
+-- How the probes of an event change what is kept besides the words, and what they decide.
 use Rattle.std.specs.Prelude.{◌≡◌, ◌⊎◌, ℕ, ◌/◌, ◌%◌, ◌==◌, ◌&&◌, ◌||◌, Bool, true, false, cond}
 use Rattle.std.specs.Prelude.{nat_lt, List, [], ◌∷◌, refl}
 use Rattle.std.proofs.Common.{inl, inr, sym, ap, ◌∙◌, subst}
@@ -6,25 +6,25 @@ use Rattle.std.proofs.lemmas.Bool.{and_parts, and_from, or_left, or_right, or_ca
 use Rattle.std.proofs.lemmas.Bool.{cases_Bool, false≢true, false_from_ne_true}
 use Rattle.seg_words.specs.Windows.{Aside, has, is_named, held_by, held_blocks}
 
--- windows close only, and a block that is held stays so
+-- windows only close, and a block that is held stays held
 pub record Goes (old new : Aside) : Type 0 where
   pub closes : (b : ℕ) → is_named new.windows b ≡ true → is_named old.windows b ≡ true
   pub holds : (b : ℕ) → has b (held_blocks old) ≡ true → has b (held_blocks new) ≡ true
 
--- What is decided of the block at a place: a window names it exactly where it is held. No later
--- probe of the event changes this.
+-- What is decided of the block at a place: a window names it exactly if it is held. No later probe
+-- of the event changes this.
 abbrev pub IsDecided : Aside → ℕ → Type 0
 IsDecided aside at = is_named aside.windows at ≡ has at (held_blocks aside)
 
--- The block at `at` was probed: it is decided, and it alone may be refused that was not before,
--- which it is only where it is held.
+-- The block at `at` was probed: it is decided, and it is the only one that may be refused now and
+-- was not before; it is refused only if it is held.
 pub record Met (old new : Aside) (at : ℕ) : Type 0 where
   pub goes : Goes old new
   pub decided : IsDecided new at
   pub refused : (b : ℕ) → has b new.refused ≡ true
       → ((b ≡ at) × (has at (held_blocks new) ≡ true)) ⊎ (has b old.refused ≡ true)
 
--- where nothing changes, nothing goes
+-- if nothing changes, this holds
 pub goes_nowhere : (old new : Aside) → new ≡ old → Goes old new
 goes_nowhere old new e = record {
   closes = λ b named. subst (λ (aside : Aside). is_named aside.windows b ≡ true) e named;
@@ -75,14 +75,14 @@ held_unnamed aside b none =
     false_from_ne_true (has b (held_blocks aside))
     (λ held. false≢true (sym none ∙ held_named aside b held))
 
--- what is decided stays so ..
+-- what is decided stays decided ..
 pub stays_decided : (old new : Aside) (b : ℕ) → Goes old new → IsDecided old b → IsDecided new b
 stays_decided old new b goes was = elim (cases_Bool (is_named new.windows b)) [
   | inl named ↦ named ∙ sym (goes.holds b (sym was ∙ goes.closes b named))
   | inr none ↦ none ∙ sym (held_unnamed new b none)
 ]
 
--- .. and with the same answer
+-- .. and with the same result
 pub stays_held : (old new : Aside) (b : ℕ) → Goes old new → IsDecided old b
     → has b (held_blocks new) ≡ has b (held_blocks old)
 stays_held old new b goes was = elim (cases_Bool (has b (held_blocks old))) [

@@ -11,15 +11,16 @@ use std::alloc::{AllocError, Global};
 
 /// Words in memory with a window for each of 64 workers, for one thread that plays them all.
 ///
-/// What is held for a worker is the place of the block that it may still copy from. It becomes the
-/// worker's window when an event begins that meets the worker. Only making the words takes memory.
+/// What is held for a worker is the place of the block from which it may still copy. It becomes the
+/// worker's window when an event begins whose mask has the worker. Only making the words allocates
+/// memory.
 #[derive(Drop)]
 pub struct HeldWords {
     items: Vec<u64>,
     held: [u32; 64],
     windows: [u32; 64],
     mask: u64,
-    // The places refused in this event stand from `left` on, the last one first.
+    // The places refused in this event begin at `left`, the last one first.
     left: u32,
     marks: [u32; 64],
     ghost short: { length items.items < 2 ^ 32 },
@@ -30,7 +31,7 @@ pub struct HeldWords {
 }
 
 impl HeldWords {
-    /// So many words, each 0. Nothing is held, and no event has begun.
+    /// `len` words, each 0. Nothing is held, and no event has begun.
     pub fn new(alloc: Global, len: u32) -> Result<HeldWords, AllocError>
         ensures words { IfOk result (λ s. ⟦<HeldWords as WordsIn>⟧.words s ≡ replicate len 0) }
         ensures aside { IfOk result (λ s. ⟦<HeldWords as WordsIn>⟧.aside s
@@ -48,7 +49,7 @@ impl HeldWords {
         })
     }
 
-    /// Keeps the block at `at` for this worker from the next event on, and nothing for 0.
+    /// Holds the block at `at` for this worker from the next event on, or nothing for 0.
     pub fn hold(&mut self, worker: u32, at: u32)
         requires { worker < 64 }
         ensures held { ⟦<HeldWords as WordsIn>⟧.rest self.new
@@ -61,8 +62,8 @@ impl HeldWords {
         self.held[worker as usize] = at;
     }
 
-    /// Begins an event that meets the workers of the mask, the worker 0 lowest. Their windows are
-    /// what is held for them, all others are closed, and no place is refused.
+    /// Begins an event with this mask, in which the worker 0 is the lowest bit. The windows of its
+    /// workers are what is held for them, all others are closed, and no place is refused.
     pub fn begin(&mut self, mask: u64)
         ensures aside { ⟦<HeldWords as WordsIn>⟧.aside self.new
             ≡ event_begun mask (⟦<HeldWords as WordsIn>⟧.rest self.old) }
@@ -128,8 +129,8 @@ impl Segment for HeldWords {
         self.mask
     }
 
-    /// Tells whether no window names the block. The workers with a window are met already, so the
-    /// mask and the windows stay.
+    /// Whether no window names the block. The workers with a window are in the mask already, so the
+    /// mask and the windows are unchanged.
     fn probe(&mut self, at: u32) -> bool
         requires block { MayProbe (⟦<HeldWords as WordsIn>⟧.words self.old)
             (⟦<HeldWords as WordsIn>⟧.aside self.old).windows at }

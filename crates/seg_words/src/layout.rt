@@ -7,16 +7,17 @@ ghost use Rattle.seg_words.specs.Layout.{words_in};
 /// value.
 pub const HEAD_WORDS: u32 = 12;
 
-/// Where an entry's head has the length of its key, in bytes.
+/// The word of an entry's head that holds the length of its key, in bytes.
 pub const KEY_LENGTH: u32 = 2;
 
-/// Where an entry's head has the length of its value's image, in words.
+/// The word of an entry's head that holds the length of its value's image, in words.
 pub const IMAGE_LENGTH: u32 = 3;
 
-/// Where an entry's head has its pin count: how many workers copy from the block just now.
+/// The word of an entry's head that holds its pin count: how many workers are copying from the
+/// block.
 pub const PIN_COUNT: u32 = 11;
 
-/// The words that so many bytes take, eight bytes a word.
+/// The number of words for this many bytes, eight bytes a word.
 pub fn words_in(bytes: u32) -> u32
     ensures { result ≡ words_in bytes }
 {
