@@ -7,8 +7,8 @@ pub record IsTopFlag (flag : ℕ → Bool) (count t : ℕ) : Type 0 where
   pub set_is : flag t ≡ true
   pub last : (j : ℕ) → t < j → j < count → flag j ≡ false
 
--- The number is 0 where none of the first `count` flags is set, and its highest bit tells the last
--- one that is set.
+-- The number is 0 if none of the first `count` flags is set, and its highest bit is that of the
+-- last one that is set.
 pub record IsMarked (flag : ℕ → Bool) (count marks : ℕ) : Type 0 where
   pub below : marks < 2 ^ count
   pub none : marks ≡ 0 → (j : ℕ) → j < count → flag j ≡ false

@@ -1,4 +1,4 @@
--- Numbers in pages of so many, each with the largest number of its page.
+-- Numbers in pages of a fixed number, each with the largest number of its page.
 use Rattle.std.specs.Prelude.{◌≡◌, ℕ, ◌+◌, ◌-◌, ◌*◌, ◌/◌, ◌^◌, ◌<◌, ◌≤◌, max, List, [], ◌∷◌, length}
 use Rattle.std.specs.Prelude.{take, drop, slice_index, zero, suc}
 use Rattle.max_tree.specs.declared.row.TheConstants.{PAGE}
@@ -24,12 +24,12 @@ pub record IsPaged (numbers tops : List ℕ) : Type 0 where
   pub tops_count : length tops ≡ (length numbers + (PAGE - 1)) / PAGE
   pub tops_are : AreTops numbers tops
 
--- how many pages so many numbers fill
+-- the number of pages that this many numbers fill
 abbrev pub pages_of : ℕ → ℕ
 pages_of count = (count + (PAGE - 1)) / PAGE
 
--- The first `count` numbers are a row, and behind it stand `above` rows of tops, each with the tops
--- of the row before it. The last row is one page at most.
+-- The first `count` numbers are a row, followed by `above` rows of tops, each with the tops of the
+-- row before it. The last row is at most one page.
 abbrev pub AreLevels : ℕ → ℕ → List ℕ → Type 0
 AreLevels zero count levels = (length levels ≡ count) × (count ≤ PAGE)
 AreLevels (suc above) count levels =

@@ -8,17 +8,17 @@ use crate::words;
 use std::alloc::{AllocError, Global};
 use std::marker::Model;
 
-// How many bits a word has.
+// The number of bits of a word.
 pub const WORD: usize = 64;
 
-// A row of bits in words, with a row of bits that tell which words are not 0, which has such a row
-// again, until one word is enough. All rows stand in one list, the lowest one first.
+// A row of bits in words, with a row that has a bit for each word that is not 0, which has such a
+// row again, until one word is enough. All rows are in one list, the lowest one first.
 #[derive(Drop)]
 pub struct BitTree {
     words: Vec<u64>,
-    // How many words the lowest row has.
+    // The number of words of the lowest row.
     count: usize,
-    // How many rows stand above it.
+    // The number of rows above it.
     above: usize,
 }
 
@@ -36,7 +36,7 @@ impl Model for BitTree {
 }
 
 impl BitTree {
-    // So many words of bits that are not set.
+    // `count` words of bits that are not set.
     pub fn new(alloc: Global, count: usize) -> Result<BitTree, AllocError>
         requires { count < 2 ^ 32 }
         ensures { IfOk result (λ row. row ≡ replicate count 0) }
@@ -50,7 +50,7 @@ impl BitTree {
         })
     }
 
-    // How many words there are, with those of all rows above.
+    // The number of words, with those of all rows above.
     pub fn weight(&self) -> usize
         ensures least { length self.now ≤ result }
         ensures most { result ≤ length self.now + length self.now - 1 }

@@ -8,7 +8,7 @@ ghost use Rattle.max_tree.specs.Pages.{largest, pages_of, AreLevels};
 use crate::pages;
 use crate::row::PAGE;
 
-// How many pages so many numbers fill.
+// The number of pages that this many numbers fill.
 pub fn page_count(count: usize) -> usize
     requires { count < 2 ^ 32 }
     ensures { result ≡ pages_of count }
@@ -16,7 +16,7 @@ pub fn page_count(count: usize) -> usize
     (count + (PAGE - 1)) / PAGE
 }
 
-// How many rows of tops so many numbers need, and how many numbers all the rows have.
+// How many rows of tops this many numbers need, and how many numbers all the rows have.
 pub fn shape_for(count: usize) -> (usize, usize)
     requires { count < 2 ^ 32 }
     ensures levels { AreLevels result.0 count (replicate result.1 0) }
@@ -30,8 +30,8 @@ pub fn shape_for(count: usize) -> (usize, usize)
     (above + 1, count + room)
 }
 
-// Makes `value` the number at `p` of the first row, which is `old`: who has read it need not read
-// it again.
+// Makes `value` the number at `p` of the first row, which is `old`: a caller that has read it need
+// not read it again.
 pub fn change(levels: &mut [u32], count: usize, above: usize, p: usize, old: u32, value: u32)
     requires levels { AreLevels above count levels.old }
     requires inside { p < count }
@@ -53,7 +53,7 @@ pub fn change(levels: &mut [u32], count: usize, above: usize, p: usize, old: u32
     change(tops, page_count(count), above - 1, p / PAGE, top, new);
 }
 
-// Makes all numbers 0, in time of the pages and of the numbers that were not 0.
+// Makes all numbers 0, in time proportional to the pages and to the numbers that were not 0.
 pub fn clear(levels: &mut [u32], count: usize, above: usize)
     requires { AreLevels above count levels.old }
     ensures { levels.new ≡ replicate (length levels.old) 0 }
@@ -68,7 +68,7 @@ pub fn clear(levels: &mut [u32], count: usize, above: usize)
     clear(tops, pages, above - 1);
 }
 
-// The least place of a number of the first row that is `n` or more, if there is one.
+// The lowest place of a number of the first row that is `n` or more, if there is one.
 pub fn first_at_least(levels: &[u32], count: usize, above: usize, n: u32) -> Option<usize>
     requires levels { AreLevels above count levels.now }
     requires some { 1 ≤ n }

@@ -1,5 +1,5 @@
 //! A row of numbers that finds the first one that is large enough, the last one before a place that
-//! is not 0, and the largest, without looking at them all.
+//! is not 0, and the largest, without reading them all.
 #![tactic(auto)]
 
 mod bits;

@@ -31,8 +31,8 @@ pub fn top_of(numbers: &[u32], k: usize) -> u32
     largest_of(&numbers[start..])
 }
 
-// The largest number of the page of `p`, where `top` was it before `value` was written at `p` in
-// place of `old`. Only where `old` was the top does it look at the page.
+// The largest number of the page of `p`, if `top` was it before `value` replaced `old` at `p`. It
+// reads the page only if `old` was the top.
 pub fn top_after(numbers: &[u32], p: usize, old: u32, value: u32, top: u32) -> u32
     requires inside { p < length numbers.now }
     requires value { value ≡ slice_index numbers.now p }

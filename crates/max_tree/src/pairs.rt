@@ -49,7 +49,7 @@ impl PairRow {
         half_of(self.row.get(p / 2), (p % 2) as u32)
     }
 
-    /// Makes `size` the number at `p`, where the other number of the pair is 0, or the first is 2.
+    /// Makes `size` the number at `p`, if the other number of the pair is 0, or the first is 2.
     pub fn put(&mut self, p: usize, size: u32)
         requires inside { p < length self.old }
         requires size { (size % 2 ≡ 0) × (2 ≤ size) × (size < 2 ^ 31) }
@@ -92,7 +92,7 @@ impl PairRow {
             self.row.set(p / 2, alone((p % 2) as u32, size));
             return;
         }
-        // The larger number first: the other one's way up then ends where the ways meet.
+        // The larger number first: the other one's way up then ends where the ways join.
         self.put(p, size);
         self.clear_at(gone);
     }
@@ -105,7 +105,7 @@ impl PairRow {
         self.row.clear();
     }
 
-    /// The least place of a number that is `n` or more, if there is one.
+    /// The lowest place of a number that is `n` or more, if there is one.
     pub fn first_at_least(&self, n: u32) -> Option<usize>
         requires { (n % 2 ≡ 0) × (2 ≤ n) }
         ensures { result ≡ position (λ value. nat_le n value) self.now }
@@ -119,7 +119,7 @@ impl PairRow {
             return None;
         };
         let pair = self.row.get(k);
-        // Where both are there the first one is 2.
+        // If both are nonzero the first one is 2.
         if pair % 4 == 2 && n == 2 {
             return Some(2 * k);
         }
@@ -152,8 +152,8 @@ impl PairRow {
     }
 }
 
-// The last number of a pair that is not 0: 0 where the first one is there alone, and 1 for the
-// second one. The processor need not guess which it is.
+// The last number of a pair that is not 0: 0 if only the first one is nonzero, and 1 for the second
+// one. The processor need not guess which it is.
 fn second_or_first(pair: u32) -> usize
     ensures { result ≡ min (pair % 4) 1 }
 {
@@ -214,7 +214,7 @@ fn pair_with(pair: u32, which: u32, size: u32) -> u32
     ensures other { half result (1 - which) ≡ half pair (1 - which) }
     ensures pair { IsPair result }
 {
-    // Seldom is the other number there, so the processor guesses this right.
+    // The other number is seldom nonzero, so the processor guesses this right.
     if (pair == 0) | (pair % 4 == which) {
         return alone(which, size);
     }

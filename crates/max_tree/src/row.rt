@@ -1,4 +1,4 @@
-//! A row of numbers with what finds the first large and the last nonzero one.
+//! A row of numbers that finds the first large and the last nonzero one.
 
 ghost use Rattle.std.specs.Prelude.{◌≡◌, ◌≢◌, ℕ, ◌+◌, ◌/◌, ◌^◌, ◌<◌, ◌≤◌, nat_le, length};
 ghost use Rattle.std.specs.Prelude.{replicate, slice_index, slice_set, IfOk, MatchOption};
@@ -10,7 +10,7 @@ use crate::tree::MaxTree;
 use std::alloc::{AllocError, Global};
 use std::marker::Model;
 
-// How many numbers a page has: two lines of the processor's cache.
+// The number of numbers in a page: two lines of the processor's cache.
 pub const PAGE: usize = 32;
 
 /// A row of numbers in pages, with the largest number of each page, and a bit for each number that
@@ -38,7 +38,7 @@ impl Model for MaxRow {
 }
 
 impl MaxRow {
-    /// A row of so many zeros. This call alone takes memory.
+    /// A row of `count` zeros. Only this call allocates memory.
     pub fn new(alloc: Global, count: usize) -> Result<MaxRow, AllocError>
         requires { count < 2 ^ 32 }
         ensures row { IfOk result (λ row. row ≡ replicate count 0) }
@@ -50,7 +50,7 @@ impl MaxRow {
         Ok(MaxRow { numbers, some })
     }
 
-    /// How many numbers there are.
+    /// The number of numbers.
     pub fn len(&self) -> usize
         ensures is { result ≡ length self.now }
         ensures short { result < 2 ^ 32 }
@@ -84,7 +84,8 @@ impl MaxRow {
         self.change(p, old, value);
     }
 
-    // Makes `value` the number at `p`, which is `old`: who has read it need not read it again.
+    // Makes `value` the number at `p`, which is `old`: a caller that has read it need not read it
+    // again.
     pub(crate) fn change(&mut self, p: usize, old: u32, value: u32)
         requires inside { p < length self.old }
         requires old { old ≡ slice_index self.old p }
@@ -98,7 +99,7 @@ impl MaxRow {
         }
     }
 
-    /// Makes all numbers 0, in time of the pages and of the numbers that were not 0.
+    /// Makes all numbers 0, in time proportional to the pages and to the numbers that were not 0.
     pub fn clear(&mut self)
         ensures count { length self.new ≡ length self.old }
         ensures zeros { (i : ℕ) → slice_index self.new i ≡ 0 }
@@ -107,7 +108,7 @@ impl MaxRow {
         self.some.clear();
     }
 
-    /// The least place of a number that is `n` or more, if there is one.
+    /// The lowest place of a number that is `n` or more, if there is one.
     pub fn first_at_least(&self, n: u32) -> Option<usize>
         requires { 1 ≤ n }
         ensures { result ≡ position (λ value. nat_le n value) self.now }

@@ -11,13 +11,13 @@ use std::alloc::{AllocError, Global};
 use std::marker::Model;
 
 // A row of numbers in pages, with the row of the largest number of each page, which has such a row
-// again, until one page is enough. All rows stand in one list, the lowest one first.
+// again, until one page is enough. All rows are in one list, the lowest one first.
 #[derive(Drop)]
 pub struct MaxTree {
     levels: Vec<u32>,
-    // How many numbers the lowest row has.
+    // The number of numbers of the lowest row.
     count: usize,
-    // How many rows stand above it.
+    // The number of rows above it.
     above: usize,
 }
 
@@ -35,7 +35,7 @@ impl Model for MaxTree {
 }
 
 impl MaxTree {
-    // A row of so many zeros.
+    // A row of `count` zeros.
     pub fn new(alloc: Global, count: usize) -> Result<MaxTree, AllocError>
         requires { count < 2 ^ 32 }
         ensures { IfOk result (λ row. row ≡ replicate count 0) }
@@ -49,7 +49,7 @@ impl MaxTree {
         })
     }
 
-    // How many numbers there are.
+    // The number of numbers.
     pub fn len(&self) -> usize
         ensures is { result ≡ length self.now }
         ensures short { result < 2 ^ 32 }
@@ -57,7 +57,7 @@ impl MaxTree {
         self.count
     }
 
-    // How many numbers there are, with those of all rows above.
+    // The number of numbers, with those of all rows above.
     pub fn weight(&self) -> usize
         ensures least { length self.now ≤ result }
         ensures pages { PAGE < length self.now
@@ -75,7 +75,8 @@ impl MaxTree {
         self.levels[p]
     }
 
-    // Makes `value` the number at `p`, which is `old`: who has read it need not read it again.
+    // Makes `value` the number at `p`, which is `old`: a caller that has read it need not read it
+    // again.
     pub fn change(&mut self, p: usize, old: u32, value: u32)
         requires inside { p < length self.old }
         requires old { old ≡ slice_index self.old p }
@@ -91,14 +92,14 @@ impl MaxTree {
         );
     }
 
-    // Makes all numbers 0, in time of the pages and of the numbers that were not 0.
+    // Makes all numbers 0, in time proportional to the pages and to the numbers that were not 0.
     pub fn clear(&mut self)
         ensures { self.new ≡ replicate (length self.old) 0 }
     {
         levels::clear(self.levels.as_mut_slice(), self.count, self.above);
     }
 
-    // The least place of a number that is `n` or more, if there is one.
+    // The lowest place of a number that is `n` or more, if there is one.
     pub fn first_at_least(&self, n: u32) -> Option<usize>
         requires { 1 ≤ n }
         ensures { result ≡ position (λ value. nat_le n value) self.now }

@@ -24,7 +24,7 @@ fn highest(word: u64) -> usize
     63 - word.leading_zeros() as usize
 }
 
-// How many words so many bits fill.
+// The number of words that this many bits fill.
 pub fn word_count(count: usize) -> usize
     requires { count < 2 ^ 32 }
     ensures { result ≡ words_of count }
@@ -32,7 +32,7 @@ pub fn word_count(count: usize) -> usize
     (count + (WORD - 1)) / WORD
 }
 
-// How many rows so many words need above them, and how many words all the rows have.
+// How many rows this many words need above them, and how many words all the rows have.
 pub fn shape_for(count: usize) -> (usize, usize)
     requires { count < 2 ^ 32 }
     ensures levels { AreWords result.0 count (replicate result.1 0) }
