@@ -11,8 +11,8 @@ abbrev pub bytes_of : Form → List ℕ
 bytes_of (Short bytes) = bytes
 bytes_of (Long told spare len base alloc deed) = deed.items
 
--- the numbers are those of the block that the deed owns. Where its room is not told, there is no
--- block to give back
+-- the numbers are those of the block that the deed owns. If its capacity is not known, there is no
+-- block to free
 pub record IsInBlock (told : Bool) (spare : ℕ) (len : ℕ) (base : Base ℕ) (alloc : Global) (deed : Deed ℕ Global) : Type 0 where
   pub at : base.ptr ≡ deed.at
   pub counts : len ≡ length deed.items

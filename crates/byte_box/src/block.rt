@@ -1,4 +1,5 @@
-//! The block of a `Vec`, apart from the `Vec`: where it begins, and the right to read and free it.
+//! The block of a `Vec`, separated from the `Vec`: where it begins, and the right to read and free
+//! it.
 
 ghost use Rattle.std.specs.Prelude.{◌≡◌, ℕ, List, ◌<◌, ◌≤◌, length, ⊤};
 ghost use Rattle.std.specs.Vec.{vec_ptr, vec_capacity, vec_allocator};
@@ -11,7 +12,7 @@ use std::marker::{Model, Move, Owns, PhantomData, Send, Sync};
 use std::mem::{ManuallyDrop, align_of, size_of};
 use std::slice;
 
-/// Where a block begins. It owns nothing.
+/// The address of a block. It owns nothing.
 pub(crate) struct Base<T> {
     pub(crate) ptr: *const T,
 }
@@ -33,7 +34,7 @@ unsafe impl<T> Send for Base<T> {}
 unsafe impl<T> Sync for Base<T> {}
 
 /// The owner of the block at `at`, which has `cap` places, of which the first hold `items`, and the
-/// right to give it back. It takes no bytes. At `cap` 0 there is no block.
+/// right to free it. It takes no bytes. If `cap` is 0 there is no block.
 pub(crate) struct Deed<T, A: Allocator> {
     mark: PhantomData<*const (T, A)>,
     pub(crate) ghost at: { Ptr },
@@ -54,7 +55,7 @@ unsafe impl<T: Send, A: Allocator + Send> Send for Deed<T, A> {}
 
 unsafe impl<T: Sync, A: Allocator> Sync for Deed<T, A> {}
 
-/// The bits of a value whose memory has gone to another owner. It owns nothing.
+/// The bits of a value whose memory has another owner now. It owns nothing.
 struct Husk<V> {
     _value: V,
 }
@@ -80,7 +81,7 @@ fn part<T, A: Allocator>(vec: Vec<T, A>) -> (Deed<T, A>, Husk<Vec<T, A>>)
 }
 
 impl<T, A: Allocator> Deed<T, A> {
-    /// The block of a `Vec`, which is then used up.
+    /// The block of a `Vec`, which is consumed.
     pub(crate) fn of(vec: Vec<T, A>) -> Deed<T, A>
         ensures at { result.at ≡ vec_ptr vec }
         ensures cap { result.cap ≡ vec_capacity vec }
@@ -101,7 +102,7 @@ impl<T, A: Allocator> Deed<T, A> {
         unsafe { slice::from_raw_parts(base.ptr, len) }
     }
 
-    /// Gives the block back. The items are not dropped.
+    /// Frees the block. The items are not dropped.
     pub(crate) fn free(self, alloc: &A, base: Base<T>, cap: usize)
         requires block { 0 < cap }
         requires at { base.ptr ≡ self.at }

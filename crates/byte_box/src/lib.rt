@@ -1,5 +1,4 @@
-//! Byte strings that take sixteen bytes where they are kept, and none elsewhere where they are
-//! short.
+//! Byte strings that take sixteen bytes in their owner, and no other memory if they are short.
 #![tactic(auto)]
 
 mod block;

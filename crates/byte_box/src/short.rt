@@ -8,7 +8,7 @@ use std::marker::Model;
 /// The most bytes of a `Short`: of a string's sixteen, one tells its form and one their number.
 pub(crate) const MOST: usize = 14;
 
-/// A byte string of fourteen bytes at most, where it stands.
+/// A byte string of at most fourteen bytes, in place.
 #[derive(Drop)]
 pub(crate) struct Short {
     len: u8,
@@ -48,7 +48,7 @@ impl Short {
         &self.bytes[..self.len as usize]
     }
 
-    /// How many bytes there are.
+    /// The number of bytes.
     pub(crate) fn len(&self) -> usize
         ensures { result ≡ length self.now }
     {

@@ -16,15 +16,15 @@ use std::fmt;
 use std::marker::Model;
 use std::mem::ManuallyDrop;
 
-/// A byte string of fewer than 2^32 bytes, in sixteen bytes: the bytes themselves where they are
-/// fourteen or fewer, and else where their block begins, how many there are, and how much more room
-/// it has.
+/// A byte string of fewer than 2^32 bytes, in sixteen bytes: the bytes themselves if they are
+/// fourteen or fewer, and otherwise the address of their block, their number, and how much more
+/// room it has.
 pub struct ByteBox {
     form: Form,
 }
 
-// Where the bytes are. What stands before the address has to fit in eight bytes with the tag, or a
-// string takes 24: so the room is told in 16 bits, by what it has beyond the bytes.
+// The place of the bytes. What is before the address has to fit in eight bytes with the tag, or a
+// string takes 24: so the capacity is stored in 16 bits, as what it has beyond the bytes.
 enum Form {
     Short(Short),
     Long {
@@ -50,9 +50,9 @@ impl Model for ByteBox {
 }
 
 impl ByteBox {
-    /// These bytes. It takes no memory. Fourteen and fewer are copied into the string, and their
-    /// block goes back. A block with room for 2^16 bytes or more that it does not hold is first cut
-    /// down to what it holds; where the allocator refuses even that, it is never given back.
+    /// These bytes. It allocates no memory. Fourteen and fewer are copied into the string, and
+    /// their block is freed. A block with room for 2^16 bytes or more that it does not use is first
+    /// shrunk to what it holds; if the allocator refuses even that, it is never freed.
     pub fn from_vec(items: Vec<u8>) -> ByteBox
         requires { length items.items < 2 ^ 32 }
         ensures { result ≡ items.items }
@@ -95,7 +95,7 @@ impl ByteBox {
         }
     }
 
-    /// How many bytes there are.
+    /// The number of bytes.
     pub fn len(&self) -> usize
         ensures { result ≡ length self.now }
     {
@@ -142,7 +142,7 @@ fn in_block(items: Vec<u8>) -> ByteBox
     }
 }
 
-// The same bytes, where it can be had in a block whose further room is counted in 16 bits.
+// The same bytes, if they can be put in a block whose further room is counted in 16 bits.
 fn narrowed(mut items: Vec<u8>) -> Vec<u8>
     ensures { result.items ≡ items.items }
 {
