@@ -36,7 +36,7 @@ children_at None = []
 children_at (Some kind) = children_of kind
 
 -- The container at place p lies in the containers around it, the innermost first. In each the next
--- one is the last member so far, and all members before it are whole.
+-- one is the last member so far, and all members before it are complete.
 abbrev pub IsSpine : List Kind → List ℕ → ℕ → Type 0
 IsSpine g [] p = p ≡ 1
 IsSpine g (q ∷ outer) p =
@@ -45,8 +45,8 @@ IsSpine g (q ∷ outer) p =
     × (ends_after (child_end (levels - suc (length outer)) g) before (q + 1) ≡ Some p)
     × IsSpine g outer q
 
--- The members of the innermost open container are whole, and m is the next number. Where none is
--- open, the value at place 1 is whole, or nothing is written.
+-- The members of the innermost open container are complete, and m is the next number. If none is
+-- open, the value at place 1 is complete, or nothing is written.
 abbrev pub IsShaped : List Kind → List ℕ → ℕ → Type 0
 IsShaped g [] m = (m ≡ 1) ⊎ (end_of g 1 ≡ Some m)
 IsShaped g (p ∷ outer) m =
@@ -114,7 +114,7 @@ pub record IsNewValue (g : List Kind) (kind : Kind) : Type 0 where
   pub fits : FitsKind kind
   pub target : (x : ℕ) → kind ≡ kinds.Same x → IsTrue (is_object_at g x)
 
--- A container that opens at this place comes last. Where none opens, all stays.
+-- A container that opens at this place comes last. If none opens, nothing changes.
 abbrev pub Opens : Bool → ℕ → List Container → List Container → Type 0
 Opens true place old new =
     (c : Container)

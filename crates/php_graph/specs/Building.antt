@@ -23,9 +23,9 @@ use Rattle.php_graph.specs.Graph.{kind_at, is_array, is_object, is_array_at, is_
 use Rattle.php_graph.specs.Graph.{holds_key, is_array_key, is_class, FitsKey, values_in, levels}
 use Rattle.php_graph.specs.Graph.{most_values}
 
--- A graph that is being written: its places so far, where a container that is open has the members
--- that have begun; the places of the open containers, the innermost first; and a key that waits for
--- its value.
+-- A graph that is being written: its places so far, in which a container that is open has the
+-- members that have begun; the places of the open containers, the innermost first; and a key that
+-- waits for its value.
 pub record Draft : Type 0 where
   pub places : List Kind
   pub containers : List ℕ
@@ -68,7 +68,7 @@ abbrev pub is_name : Key → Bool
 is_name (keys.Int n) = false
 is_name (keys.Str bytes) = true
 
--- whether the item may come where so much is wanted
+-- whether the item is allowed when this is wanted
 abbrev pub item_fits : Wants → Item → Bool
 item_fits Value item = is_value item
 item_fits ArrayKey (items.Key k) = true
@@ -115,7 +115,7 @@ content_fault g (items.Back x) = if nat_le 1 x && nat_le x (length g) then None 
 content_fault g (items.OpenObject class) = if is_class class then None else Some BadClass
 content_fault g _ = None
 
--- why there is no room for one more value: it would lie too deep, or there are too many
+-- why there is no room for one more value: it would be nested too deep, or there are too many
 abbrev pub room_fault : Draft → Option BuildFault
 room_fault d =
     if nat_le levels (length d.containers) then Some TooDeep
@@ -129,21 +129,21 @@ first_fault (Some fault) later = Some fault
 abbrev pub value_fault : Draft → Item → Option BuildFault
 value_fault d item = first_fault (room_fault d) (content_fault d.places item)
 
--- why an item that fits is refused, memory aside; None where it is not
+-- why an item that fits is refused, memory aside; None if it is not
 abbrev pub fault_of : Draft → Item → Option BuildFault
 fault_of d (items.Key key) = innermost_fault d.places d.containers key
 fault_of d items.Close = None
 fault_of d item = value_fault d item
 
--- What a step answers where this is wrong with it: that very fault, or where nothing is, Ok, unless
--- memory runs out.
+-- The result of a step with this fault: that very fault, or if there is none, Ok, unless memory
+-- runs out.
 abbrev pub IsAnswer : Option BuildFault → Result (Unit {0}) BuildFault → Type 0
 IsAnswer fault (Ok done) = fault ≡ None
 IsAnswer fault (Err answered) = ((answered ≡ Memory) × (fault ≡ None)) ⊎ (fault ≡ Some answered)
 
 -- ---- what an item does
 
--- the container with one member more
+-- the container with one more member
 abbrev pub with_member : Kind → Key → Child → Kind
 with_member (kinds.Array ms) key c = kinds.Array (ms ++ (key, c) ∷ [])
 with_member (kinds.Object class ps) (keys.Str name) c = kinds.Object class (ps ++ (name, c) ∷ [])
@@ -154,7 +154,7 @@ changed_at g p change None = g
 changed_at g p change (Some kind) = slice_set g (p - 1) (change kind)
 
 -- The places with this member in the innermost open container, under the key that waits. A value at
--- the top is nobody's member.
+-- the top is no member.
 abbrev pub attached : List Kind → List ℕ → Option Key → Child → List Kind
 attached g (p ∷ outer) (Some key) c = changed_at g p (λ kind. with_member kind key c) (kind_at g p)
 attached g _ _ c = g
@@ -199,7 +199,7 @@ pushed d items.Close = record { places = d.places; containers = drop 1 d.contain
 pushed d (items.Same x) = with_value d (kinds.Same x)
 pushed d (items.Back x) = with_back d x
 
--- The draft after a list of items, one after the other. None where one does not fit or is refused.
+-- The draft after a list of items, one after the other. None if one does not fit or is refused.
 abbrev pub drafted : Draft → List Item → Option Draft
 drafted d [] = Some d
 drafted d (item ∷ rest) =
@@ -217,7 +217,7 @@ member_items written (m ∷ ms) = items.Key m.0 ∷ written m.1 ++ member_items 
 abbrev pub named : List ℕ × Child → Key × Child
 named p = (keys.Str p.0, p.1)
 
--- what one pushes for the place, where this is pushed for its children
+-- what one pushes for the place, if this is pushed for its children
 abbrev pub kind_items : (Child → List Item) → Option Kind → List Item
 kind_items written None = []
 kind_items written (Some kinds.Null) = items.Null ∷ []

@@ -20,7 +20,7 @@ use Rattle.php_graph.specs.declared.builder.TheConstants.{LEVELS, MOST_VALUES}
 
 -- ---- places and members
 
--- what stands at place k, counted from 1
+-- what is at place k, counted from 1
 abbrev pub kind_at : List Kind → ℕ → Option Kind
 kind_at g zero = None
 kind_at g (suc k) = slice_get g k
@@ -62,9 +62,9 @@ abbrev pub ends_after : (Child → ℕ → Option ℕ) → List Child → ℕ �
 ends_after end [] m = Some m
 ends_after end (c ∷ cs) m = option_and_then (ends_after end cs) (end c m)
 
--- The number after a member, where m is the next number. A value that is written there has the
--- place m, and its own members follow. One that is shared takes no number, and names one that was
--- taken before. None where a number is another one, and where members lie deeper than the levels.
+-- The number after a member, if m is the next number. A value that is written there has the place
+-- m, and its own members follow. One that is shared takes no number, and names one that was taken
+-- before. None if a number is another one, and if members are nested deeper than the levels.
 unfoldable pub child_end : ℕ → List Kind → Child → ℕ → Option ℕ
 child_end zero g c m = None
 child_end (suc level) g (Own x) m =
@@ -74,7 +74,7 @@ child_end (suc level) g (Own x) m =
     else None
 child_end (suc level) g (Back x) m = if nat_le 1 x && nat_lt x m then Some m else None
 
--- how many values may lie in one another: the innermost lies inside 511 containers
+-- how deep values may be nested: the innermost lies inside 511 containers
 abbrev pub levels : ℕ
 levels = LEVELS
 
@@ -82,7 +82,7 @@ levels = LEVELS
 unfoldable pub end_of : List Kind → ℕ → Option ℕ
 end_of g k = child_end levels g (Own k) k
 
--- ---- what is said of each place
+-- ---- what holds of each place
 
 abbrev pub key_eq : Key → Key → Bool
 key_eq (keys.Int a) (keys.Int b) = int_eq a b
@@ -115,7 +115,7 @@ is_class_byte b =
 abbrev pub is_class : List ℕ → Bool
 is_class bytes = not (length bytes == 0) && list_all is_class_byte bytes
 
--- keys and names are there once, and are such as may stand there, and so is a class
+-- keys and names are there once, and are valid, and so is a class
 abbrev pub is_well_formed : Kind → Bool
 is_well_formed (kinds.Array ms) =
     are_distinct (map (λ m. m.0) ms) && list_all (λ m. is_array_key m.0) ms
@@ -160,7 +160,7 @@ pub record IsGraph (g : List Kind) : Type 0 where
 
 -- ---- parts
 
--- a number lowered by so much, and none below 1
+-- a number lowered by this amount, and none below 1
 abbrev pub lowered_number : ℕ → ℕ → Option ℕ
 lowered_number by x = if nat_lt by x then Some (x - by) else None
 
@@ -168,7 +168,7 @@ abbrev pub lowered_child : ℕ → Child → Option Child
 lowered_child by (Own x) = option_map Own (lowered_number by x)
 lowered_child by (Back x) = option_map Back (lowered_number by x)
 
--- each member with its child lowered, where all of them can be
+-- each member with its child lowered, if all of them can be
 abbrev pub lowered_members : {A : Type 0} → ℕ → List (A × Child) → Option (List (A × Child))
 lowered_members by [] = Some []
 lowered_members by (m ∷ ms) =
@@ -190,7 +190,7 @@ lowered_places by (kind ∷ ks) =
     (lowered_kind by kind)
 
 -- The places of the value that is written at place k, as a graph of their own: all numbers are
--- lowered by k - 1. None where one of them names a place outside that value.
+-- lowered by k - 1. None if one of them names a place outside that value.
 unfoldable pub part_of : List Kind → ℕ → Option (List Kind)
 part_of g k =
     option_and_then (λ e. lowered_places (k - 1) (take (e - k) (drop (k - 1) g))) (end_of g k)

@@ -29,7 +29,7 @@ abbrev pub key_mark : Key → ℕ
 key_mark (Int n) = (cast_unsigned w64 n + 2 ^ 63) % 2 ^ 64
 key_mark (Str bytes) = hash_of bytes
 
--- No key's mark is above the highest. Where there is none, there is no key.
+-- No key's mark is above the highest. If there is none, there is no key.
 abbrev pub BoundsKeys : Option ℕ → List Key → Type 0
 BoundsKeys None ks = ks ≡ []
 BoundsKeys (Some h) ks = (q : Key) → holds_key ks q ≡ true → key_mark q ≤ h
@@ -39,7 +39,7 @@ abbrev pub is_above : Option ℕ → ℕ → Bool
 is_above None m = true
 is_above (Some h) m = nat_lt h m
 
--- the highest once this mark is there too
+-- the highest after this mark was added
 abbrev pub raised : Option ℕ → ℕ → Option ℕ
 raised highest m = if is_above highest m then Some m else highest
 
@@ -47,11 +47,11 @@ raised highest m = if is_above highest m then Some m else highest
 abbrev pub HasMarks : List Key → BTreeSet ℕ → Type 0
 HasMarks ks set = (q : Key) → holds_key ks q ≡ true → contains nat_cmp set (key_mark q) ≡ true
 
--- the set has just these keys
+-- the set has exactly these keys
 abbrev pub HasKeys : List Key → BTreeSet Key → Type 0
 HasKeys ks set = (q : Key) → contains key_cmp set q ≡ holds_key ks q
 
--- what is kept of the keys is so
+-- what is kept of the keys is correct
 abbrev pub SeesKeys : Seen → List Key → Type 0
 SeesKeys Nothing ks = Unit {0}
 SeesKeys (Marks set) ks = HasMarks ks set
@@ -62,6 +62,6 @@ pub record KnowsKeys (highest : Option ℕ) (seen : Seen) (ks : List Key) : Type
   pub bounded : BoundsKeys highest ks
   pub sees : SeesKeys seen ks
 
--- what is wrong with one more key: it is there already
+-- what is wrong with one more key: it exists already
 abbrev pub repeat_fault : List Key → Key → Option BuildFault
 repeat_fault ks k = if holds_key ks k then Some RepeatedKey else None

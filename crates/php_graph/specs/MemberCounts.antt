@@ -1,4 +1,4 @@
--- How many members there are.
+-- The number of members.
 use Rattle.std.specs.Prelude.{ℕ, List, length, sum_by}
 use Rattle.php_graph.specs.declared.kind.Kind.{Kind}
 use Rattle.php_graph.specs.Graph.{children_of}

@@ -11,7 +11,7 @@ is_canonical [] = false
 is_canonical (d ∷ ds) =
     list_all is_ascii_digit (d ∷ ds) && (if d == 48 then length ds == 0 else true)
 
--- the number that digits write behind those of n
+-- the number that digits write after those of n
 abbrev pub digits_after : ℕ → List ℕ → ℕ
 digits_after n [] = n
 digits_after n (d ∷ ds) = digits_after (10 * n + (d - 48)) ds
@@ -22,7 +22,7 @@ natural_of ds =
     if is_canonical ds && nat_lt (digits_after 0 ds) (2 ^ 63) then Some (pos (digits_after 0 ds))
     else None
 
--- the number from -2^63 to -1 that digits write behind a minus
+-- the number from -2^63 to -1 that digits write after a minus
 abbrev pub negative_of : List ℕ → Option ℤ
 negative_of ds =
     if is_canonical ds && (nat_lt 0 (digits_after 0 ds) && nat_le (digits_after 0 ds) (2 ^ 63))
@@ -30,7 +30,7 @@ negative_of ds =
     else None
 
 -- The 64-bit integer of which the text is the canonical decimal: digits without a leading zero, '-'
--- (45) before a number below 0, '0' alone. None where the text is no such decimal.
+-- (45) before a number below 0, '0' alone. None if the text is no such decimal.
 unfoldable pub int_of_text : List ℕ → Option ℤ
 int_of_text [] = None
 int_of_text (c ∷ ds) = if c == 45 then negative_of ds else natural_of (c ∷ ds)

@@ -1,4 +1,4 @@
--- What a graph keeps beside its places.
+-- What a graph keeps besides its places.
 use Rattle.std.specs.Prelude.{◌≡◌, ℕ, ◌+◌, ◌≤◌, Option, Some, ◌<◌, ◌^◌, List, [], ◌∷◌, map}
 use Rattle.php_graph.specs.declared.kind.Kind.{Kind}
 use Rattle.php_graph.specs.declared.places.Place.{Place}
@@ -8,19 +8,19 @@ use Rattle.php_graph.specs.declared.child.Child.{Child}
 use Rattle.php_graph.specs.declared.child.Child.TheVariants.{Own, Back}
 use Rattle.php_graph.specs.Size.{cells_of, image_length}
 
--- where each place stands, if the first one stands at n
+-- the offset of each place, if the first one is at n
 abbrev pub offsets_from : ℕ → List Kind → List ℕ
 offsets_from n [] = []
 offsets_from n (kind ∷ ks) = n ∷ offsets_from (n + cells_of kind) ks
 
--- what stands at places, and where the image has each
+-- what is at places, and the offset of each
 abbrev pub kinds_at : List Place → List Kind
 kinds_at places = map (λ p. p.kind) places
 
 abbrev pub offsets_at : List Place → List ℕ
 offsets_at places = map (λ p. p.at) places
 
--- Places of which the first stands apart. It begins the image.
+-- Places of which the first is separate. It begins the image.
 pub record PlaceList : Type 0 where
   pub first : Kind
   pub others : List Place
@@ -31,7 +31,7 @@ kinds_of layout = layout.first ∷ kinds_at layout.others
 abbrev pub offsets_of : PlaceList → List ℕ
 offsets_of layout = 0 ∷ offsets_at layout.others
 
--- the places of a graph, with where each stands and the length of the image
+-- the places of a graph, with the offset of each and the length of the image
 pub record IsKept (places : List Kind) (offsets : List ℕ) (words : ℕ) : Type 0 where
   pub graph : IsGraph places
   pub offsets_are : offsets ≡ offsets_from 0 places
@@ -39,7 +39,7 @@ pub record IsKept (places : List Kind) (offsets : List ℕ) (words : ℕ) : Type
   pub words_are : words ≡ image_length places
   pub small : words < 2 ^ 60
 
--- the number of the last member that is written here, or the one before where there is none
+-- the number of the last member that is written here, or the one before if there is none
 abbrev pub last_own : Option ℕ → List Child → Option ℕ
 last_own before [] = before
 last_own before (Own x ∷ cs) = last_own (Some x) cs

@@ -28,7 +28,7 @@ cells_of (kinds.Same x) = 2
 abbrev pub image_length : List Kind → ℕ
 image_length g = sum_by cells_of g
 
--- where the image has place k: behind the places before it
+-- the offset of place k in the image: after the places before it
 abbrev pub offset_of : List Kind → ℕ → ℕ
 offset_of g k = image_length (take (k - 1) g)
 

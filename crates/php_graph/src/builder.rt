@@ -28,15 +28,15 @@ use crate::props::Props;
 use std::alloc::{AllocError, Global};
 use std::marker::Model;
 
-/// How many containers may lie in one another.
+/// How deep containers may be nested.
 pub const LEVELS: usize = 512;
 /// How many values a graph may have.
 pub const MOST_VALUES: u32 = 16_777_216;
 
 /// A graph that is being written, item by item, in the order of the notation.
 pub struct Builder {
-    // None where nothing is written yet. Where the image has each is filled in once the graph is
-    // whole.
+    // None if nothing is written yet. The offset of each place in the image is set once the graph
+    // is complete.
     places: Option<Places>,
     // The open containers, the outermost first.
     containers: Vec<Container>,
@@ -58,8 +58,8 @@ impl Model for Builder {
     ghost invariant = { λ a. IsBuilding (kinds_in a.places) a.containers.items a.key a.values };
 }
 
-// Written out, as for each type whose parts are owned and many: a body that lets a builder go, on
-// each of its ways out, then has one call to follow there and not a walk through the parts.
+// Written out, as for each type that owns many parts: a body that drops a builder, on each of its
+// ways out, then has one call to follow there and not a walk through the parts.
 impl Drop for Builder {
     fn drop(self) {
         let Builder {
@@ -72,7 +72,7 @@ impl Drop for Builder {
     }
 }
 
-// Room for one more open container, where one opens.
+// Reserves room for one more open container, if one opens.
 fn make_room(containers: &mut Vec<Container>, opens: bool) -> Result<(), AllocError>
     ensures items { containers.new.items ≡ containers.old.items }
     ensures room { IsTrue opens
@@ -85,7 +85,7 @@ fn make_room(containers: &mut Vec<Container>, opens: bool) -> Result<(), AllocEr
 }
 
 impl Builder {
-    /// Nothing is written yet. This takes no memory.
+    /// Nothing is written yet. This allocates no memory.
     pub fn new(alloc: Global) -> Builder
         ensures { result ≡ nothing_drafted }
     {
@@ -98,7 +98,7 @@ impl Builder {
         }
     }
 
-    // How many places there are.
+    // The number of places.
     fn len(&self) -> usize
         ensures { result ≡ length self.now.places }
     {
@@ -108,7 +108,7 @@ impl Builder {
         }
     }
 
-    /// What comes next.
+    /// What is expected next.
     pub fn wants(&self) -> Wants
         ensures { result ≡ wants_of self.now }
     {
@@ -129,8 +129,8 @@ impl Builder {
         }
     }
 
-    /// Why there is no room for one more value: it would lie too deep, or there are too many.
-    /// What is refused so is refused whatever the value is.
+    /// Why there is no room for one more value: it would be nested too deep, or there are too many.
+    /// This applies whatever the value is.
     pub fn room(&self) -> Result<(), BuildFault>
         ensures { MatchResult result (λ _. room_fault self.now ≡ None)
             (λ fault. room_fault self.now ≡ Some fault) }
@@ -144,7 +144,7 @@ impl Builder {
         Ok(())
     }
 
-    // A value with a place of its own, where there is room for it.
+    // A value with a place of its own, if there is room for it.
     fn add_value(&mut self, kind: Kind) -> Result<(), AllocError>
         requires wanted { wants_of self.old ≡ Value }
         requires new_value { IsNewKind self.old.places kind }
@@ -293,11 +293,10 @@ impl Builder {
         }
     }
 
-    /// Writes the next item. It is refused where it begins a value inside 512 containers, or the
-    /// value number 16,777,217; where it shares a place that has not begun, or names no object that
-    /// has; where its key is an integer's decimal, or is there already; or where its class has no
-    /// such name. Want of memory comes only where none of these does. A refusal leaves everything
-    /// as it was.
+    /// Writes the next item. It is refused if it begins a value inside 512 containers, or the value
+    /// number 16,777,217; if it shares a place that has not begun, or names no object that has; if
+    /// its key is an integer's decimal, or exists already; or if its class name is invalid. It is
+    /// out of memory only if none of these applies. A refusal changes nothing.
     pub fn push(&mut self, item: Item) -> Result<(), BuildFault>
         requires { IsTrue (item_fits (wants_of self.old) item) }
         ensures ok { OnOk result ((self.new ≡ pushed self.old item)

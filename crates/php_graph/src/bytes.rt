@@ -32,7 +32,7 @@ impl Model for Bytes {
 }
 
 impl Bytes {
-    /// These bytes. It takes no memory.
+    /// These bytes. It allocates no memory.
     pub fn from_vec(items: Vec<u8>) -> Bytes
         requires { length items.items < 2 ^ 32 }
         ensures { result ≡ items.items }

@@ -13,8 +13,8 @@ pub enum Child {
 }
 
 impl Child {
-    // The same child of a graph whose numbers are lowered by so much. None where that names none of
-    // its places.
+    // The same child of a graph whose numbers are lowered by this amount. None if that names none
+    // of its places.
     pub(crate) fn lowered(self, by: u32) -> Option<Child>
         ensures { result ≡ lowered_child by self }
     {

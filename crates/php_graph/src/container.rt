@@ -17,21 +17,21 @@ use crate::kind::Kind;
 use std::alloc::{AllocError, Global};
 use std::collections::BTreeSet;
 
-// Up to so many keys are looked through one by one.
+// Up to this many keys are compared one by one.
 const FEW_KEYS: u32 = 8;
 
-// What is kept of a container's keys, to tell those that are new.
+// What is kept of a container's keys, to recognise new ones.
 pub(crate) enum Seen {
     // Nothing: there are few keys, or each one's mark was above those before it.
     Nothing,
     // Each key's mark.
     Marks(BTreeSet<u64>),
-    // Each key, from where one came whose mark was there.
+    // Each key, since one came whose mark was already in the set.
     Keys(BTreeSet<Key>),
 }
 
-// Written out, so that the walk through a set's nodes is proved here alone and not in each crate
-// that lets a builder go.
+// Written out, so that the walk through a set's nodes is proved only here and not in each crate
+// that drops a builder.
 impl Drop for Seen {
     fn drop(self) {
         match self {
@@ -47,7 +47,7 @@ impl Drop for Seen {
 pub(crate) struct Container {
     // Its place, from 1.
     pub(crate) place: u32,
-    // No key's mark is above it. None where there is no key.
+    // No key's mark is above it. None if there is no key.
     pub(crate) highest: Option<u64>,
     // What is kept of its keys.
     pub(crate) seen: Seen,
@@ -66,8 +66,8 @@ impl Container {
         }
     }
 
-    // Takes this key into the container, unless it has it. A key whose mark is above all others is
-    // new, and is not looked for.
+    // Adds this key to the container, unless it has it. A key whose mark is above all others is
+    // new, and is not looked up.
     pub(crate) fn add_key(
         &mut self,
         alloc: Global,
@@ -89,7 +89,7 @@ impl Container {
     }
 }
 
-// Notes a key, unless it is there. One whose mark rises above all others is new.
+// Notes a key, unless it exists. One whose mark is above all others is new.
 fn see(
     seen: &mut Seen,
     alloc: Global,
@@ -122,8 +122,8 @@ fn see(
     }
 }
 
-// Notes a key where nothing is kept, unless it is there. Where there are many, their marks are kept
-// from here on.
+// Notes a key when nothing is kept, unless it exists. If there are many, their marks are kept from
+// here on.
 fn see_first(
     seen: &mut Seen,
     alloc: Global,
@@ -154,8 +154,8 @@ fn see_first(
     see_marked(seen, alloc, kind, key)
 }
 
-// Notes a key whose mark is there, unless it is there itself. From here on all keys are kept, so
-// that many keys of one mark cost no more than others.
+// Notes a key whose mark exists, unless it exists itself. From here on all keys are kept, so that
+// many keys of one mark cost no more than others.
 fn see_marked(seen: &mut Seen, alloc: Global, kind: &Kind, key: &Key) -> Result<(), BuildFault>
     requires { SeesKeys seen.old (keys_of kind.now) }
     ensures answer { IsAnswer (repeat_fault (keys_of kind.now) key.now) result }
@@ -170,7 +170,7 @@ fn see_marked(seen: &mut Seen, alloc: Global, kind: &Kind, key: &Key) -> Result<
     noted
 }
 
-// What is answered where there is no memory. A key that is there is refused as ever.
+// The fault if there is no memory. An existing key is refused as always.
 fn no_memory(kind: &Kind, key: &Key) -> BuildFault
     ensures { IsAnswer (repeat_fault (keys_of kind.now) key.now) (Err result) }
 {
@@ -181,7 +181,7 @@ fn no_memory(kind: &Kind, key: &Key) -> BuildFault
     }
 }
 
-// Adds an equal key to the set, unless it is there.
+// Adds an equal key to the set, unless it is in it.
 fn insert_new(keys: &mut BTreeSet<Key>, alloc: Global, key: &Key) -> Result<(), BuildFault>
     ensures answer { (ks : List Key) → HasKeys ks keys.old
         → IsAnswer (repeat_fault ks key.now) result }
@@ -210,7 +210,7 @@ pub(crate) fn insert_copy(
     Ok(())
 }
 
-// Adds a key's mark to the set: whether it is new there. Memory is wanted only for one that is.
+// Adds a key's mark to the set, and returns whether it is new there. Only a new one needs memory.
 pub(crate) fn insert_mark(marks: &mut BTreeSet<u64>, mark: u64) -> Result<bool, AllocError>
     ensures new { IfOk result (λ new. new ≡ not (contains nat_cmp marks.old mark)) }
     ensures absent { OnErr result (contains nat_cmp marks.old mark ≡ false) }
@@ -232,7 +232,7 @@ fn is_above(highest: Option<u64>, mark: u64) -> bool
     }
 }
 
-// The highest once this mark is there too.
+// The highest mark after this one was added.
 fn raised(highest: Option<u64>, mark: u64) -> Option<u64>
     ensures { result ≡ raised highest mark }
 {

@@ -20,7 +20,7 @@ use crate::numbers::int_of_text;
 use crate::places::Places;
 use std::alloc::{AllocError, Global};
 
-// Puts a value at the end, where there is room for it.
+// Puts a value at the end, if there is room for it.
 pub(crate) fn put<T: Drop>(items: &mut Vec<T>, value: T)
     requires { vec_len items.old < vec_capacity items.old }
     ensures { items.new.items ≡ items.old.items ++ value ∷ [] }
@@ -30,7 +30,7 @@ pub(crate) fn put<T: Drop>(items: &mut Vec<T>, value: T)
     }
 }
 
-// Notes a container that opens at this place, where there is room for it.
+// Notes a container that opens at this place, if there is room for it.
 pub(crate) fn open_container(containers: &mut Vec<Container>, place: u32, opens: bool)
     requires { IsTrue opens → vec_len containers.old < vec_capacity containers.old }
     ensures { Opens opens place containers.old.items containers.new.items }
@@ -123,7 +123,7 @@ fn push_other(
     }
 }
 
-// Notes a key of the innermost open container, unless it may not stand there.
+// Notes a key of the innermost open container, unless it is not allowed there.
 pub(crate) fn add_key_to_last(
     alloc: Global,
     places: &Option<Places>,
@@ -153,7 +153,7 @@ pub(crate) fn add_key_to_last(
     add_key_to(alloc, kind, container, key)
 }
 
-// Notes a key of an open container, unless it may not stand there.
+// Notes a key of an open container, unless it is not allowed there.
 fn add_key_to(
     alloc: Global,
     kind: &Kind,

@@ -19,11 +19,11 @@ use std::alloc::{AllocError, Global};
 use std::marker::Model;
 
 /// A value as PHP's serialize notation numbers it: a list of places from 1, in the order in which
-/// they are written. Order, sharing and cycles are the numbers in its members. It is whole and well
-/// formed always.
+/// they are written. Order, sharing and cycles are the numbers in its members. It is always
+/// complete and well formed.
 #[derive(Debug)]
 pub struct Graph {
-    // What stands at each place, and where the image has it.
+    // What is at each place, and its offset in the image.
     places: Places,
     // The length of the image in words.
     words: u64,
@@ -62,8 +62,8 @@ impl Graph {
         Graph { places, words }
     }
 
-    /// The graph of these places, the first apart from the others, where the image has each of
-    /// them, and how long it is. It takes no memory.
+    /// The graph of these places, the first separate from the others, with the offset of each in
+    /// the image, and the image's length. It allocates no memory.
     pub fn from_places(first: Kind, others: Vec<Place>, words: u64) -> Graph
         requires { IsKept (first ∷ kinds_at others.items) (0 ∷ offsets_at others.items) words }
         ensures { result ≡ first ∷ kinds_at others.items }
@@ -72,7 +72,7 @@ impl Graph {
         Graph { places, words }
     }
 
-    /// How many places there are. Each graph is whole and well formed.
+    /// The number of places. Each graph is complete and well formed.
     pub fn places(&self) -> u32
         ensures count { result ≡ length self.now }
         ensures graph { IsGraph self.now }
@@ -80,7 +80,7 @@ impl Graph {
         self.places.len() as u32
     }
 
-    /// What stands at place k.
+    /// What is at place k.
     pub fn kind(&self, k: u32) -> &Kind
         requires from_one { 1 ≤ k }
         requires there { k ≤ length self.now }
@@ -89,7 +89,7 @@ impl Graph {
         self.places.kind((k - 1) as usize)
     }
 
-    /// Where place k stands in the graph's image, in words.
+    /// The offset of place k in the graph's image, in words.
     pub fn at(&self, k: u32) -> u64
         requires from_one { 1 ≤ k }
         requires there { k ≤ length self.now }
@@ -106,7 +106,7 @@ impl Graph {
         self.words
     }
 
-    /// Whether the two have equal places: the same values in the same order, shared alike.
+    /// Whether the two have equal places: the same values in the same order, with the same sharing.
     pub fn same(&self, other: &Graph) -> bool
         ensures { IsTrue result ↔ (self.now ≡ other.now) }
     {
@@ -125,7 +125,7 @@ impl Graph {
     }
 
     /// The value that is written at place k, as a graph of its own: its places, with all numbers
-    /// lowered by k - 1. None exactly where one of them names a place outside that value.
+    /// lowered by k - 1. None exactly if one of them names a place outside that value.
     pub fn part(&self, alloc: Global, k: u32) -> Result<Option<Graph>, AllocError>
         requires from_one { 1 ≤ k }
         requires there { k ≤ length self.now }
@@ -138,8 +138,8 @@ impl Graph {
     }
 }
 
-// The number after the value that is written at place k. Only the last of its members, the last
-// one's last and so on are looked at.
+// The number after the value that is written at place k. It reads only the last of its members, the
+// last one's last and so on.
 fn end_of(places: &Places, k: u32) -> u32
     requires graph { IsGraph (kinds_of places.now) }
     requires from_one { 1 ≤ k }
@@ -181,8 +181,8 @@ pub fn block_words(key_len: u64, g: &Graph) -> u64
 }
 
 impl Graph {
-    /// The bytes of a value that is one string; any other value comes back as it is. It takes no
-    /// memory.
+    /// The bytes of a value that is one string; any other value is returned as it is. It allocates
+    /// no memory.
     pub fn into_string(self) -> Result<Bytes, Graph>
         ensures string { IfOk result (λ bytes. (self ≡ Str bytes ∷ []) × AreBytes bytes) }
         ensures other { IfErr result

@@ -1,4 +1,4 @@
-//! What a builder is given, what it wants next, and what it refuses.
+//! The items of a builder, which one it wants next, and which it refuses.
 
 ghost use Rattle.std.specs.Prelude.{◌≡◌};
 ghost use Rattle.php_graph.specs.declared.item.BuildFault.TheVariants.{Memory};
@@ -17,7 +17,7 @@ pub enum Item {
     Int(i64),
     Str(Bytes),
     OpenArray,
-    /// An object begins. Its class is given.
+    /// An object begins, with its class.
     OpenObject(Bytes),
     /// The key of an array's next member, or as a `Key::Str` the name of an object's next property.
     Key(Key),
@@ -29,7 +29,7 @@ pub enum Item {
     Back(u32),
 }
 
-/// What comes next.
+/// What is expected next.
 #[derive(Clone, Copy, Debug, PartialEq, Eq)]
 pub enum Wants {
     Value,
@@ -37,12 +37,12 @@ pub enum Wants {
     ArrayKey,
     /// A name, or the end of the object.
     Name,
-    /// Nothing: the graph is whole.
+    /// Nothing: the graph is complete.
     Done,
 }
 
 impl Wants {
-    /// Whether this item may come.
+    /// Whether this item is allowed next.
     pub fn permits(self, item: &Item) -> bool
         ensures { result ≡ item_fits self item.now }
     {

@@ -53,8 +53,8 @@ impl Key {
         }
     }
 
-    // The key's mark. Equal keys have equal marks, and few others do. Marks of integers rise as
-    // they do.
+    // The key's mark. Equal keys have equal marks, and few others do. Marks of integers rise as the
+    // integers do.
     pub(crate) fn mark(&self) -> u64
         ensures { result ≡ key_mark self.now }
     {

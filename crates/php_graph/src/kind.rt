@@ -1,4 +1,4 @@
-//! What stands at a place of a graph.
+//! What is at a place of a graph.
 
 ghost use Rattle.std.specs.Prelude.{◌≡◌, ◌<◌, ◌+◌, ◌^◌, ◌++◌, ◌∷◌, [], length, true, None, IsTrue};
 ghost use Rattle.std.specs.Prelude.{◌↔◌, IfOk, OnOk, IfErr, OnErr};
@@ -17,7 +17,7 @@ use crate::props::Props;
 use std::alloc::{AllocError, Global};
 use std::collections::BTreeSet;
 
-/// What stands at a place of a graph.
+/// What is at a place of a graph.
 #[derive(Debug, Drop)]
 pub enum Kind {
     Null,
@@ -46,7 +46,7 @@ impl Kind {
         }
     }
 
-    // How many members there are.
+    // The number of members.
     pub(crate) fn members(&self) -> u32 {
         match self {
             Kind::Array(members) => members.len(),
@@ -125,7 +125,7 @@ impl Kind {
         }
     }
 
-    // Adds a member to a container. Where there is no memory, the key comes back.
+    // Adds a member to a container. If there is no memory, returns the key.
     pub(crate) fn add(&mut self, key: Key, child: Child) -> Result<(), Key>
         requires room { length (children_of self.old) + 1 < 2 ^ 32 }
         requires named { is_object self.old ≡ true → is_name key ≡ true }
@@ -178,8 +178,8 @@ impl Kind {
         }
     }
 
-    // The same place of a graph whose numbers are lowered by so much. None where that names none of
-    // its places.
+    // The same place of a graph whose numbers are lowered by this amount. None if that names none
+    // of its places.
     pub(crate) fn lowered(&self, alloc: Global, by: u32) -> Result<Option<Kind>, AllocError>
         ensures { IfOk result (λ lowered. lowered ≡ lowered_kind by self.now) }
     {

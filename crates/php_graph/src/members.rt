@@ -36,7 +36,7 @@ impl Model for Members {
 }
 
 impl Members {
-    // No members. This takes no memory.
+    // No members. This allocates no memory.
     pub(crate) fn new(alloc: Global) -> Members
         ensures { result ≡ [] }
     {
@@ -45,7 +45,7 @@ impl Members {
         }
     }
 
-    /// These members. It takes no memory.
+    /// These members. It allocates no memory.
     pub fn from_vec(items: Vec<(Key, Child)>) -> Members
         requires { length items.items < 2 ^ 32 }
         ensures { result ≡ items.items }
@@ -63,7 +63,7 @@ impl Members {
         item.1 = child;
     }
 
-    /// How many there are.
+    /// The number of members.
     pub fn len(&self) -> u32
         ensures { result ≡ length self.now }
     {
@@ -86,7 +86,7 @@ impl Members {
         (&item.0, item.1)
     }
 
-    // Adds a member. Where there is no memory, the key comes back.
+    // Adds a member. If there is no memory, returns the key.
     pub(crate) fn push(&mut self, key: Key, child: Child) -> Result<(), Key>
         requires { length self.old + 1 < 2 ^ 32 }
         ensures ok { OnOk result (self.new ≡ self.old ++ (key, child) ∷ []) }
@@ -124,7 +124,7 @@ impl Members {
         Ok(set)
     }
 
-    // Whether the key is there.
+    // Whether it has the key.
     pub(crate) fn has_key(&self, key: &Key) -> bool
         ensures { result ≡ holds_key (map (λ m. m.0) self.now) key.now }
     {
@@ -159,7 +159,7 @@ impl Members {
         Ok(Members { items })
     }
 
-    // The same members in a graph whose numbers are lowered by so much. None where one of them is
+    // The same members in a graph whose numbers are lowered by this amount. None if one of them is
     // none of its places.
     pub(crate) fn lowered(&self, alloc: Global, by: u32) -> Result<Option<Members>, AllocError>
         ensures { IfOk result (λ lowered. lowered ≡ lowered_members by self.now) }

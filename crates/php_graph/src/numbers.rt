@@ -11,10 +11,10 @@ ghost use Rattle.php_graph.specs.Numbers.{int_of_text, hash_of, hash_step, is_ca
 ghost use Rattle.php_graph.specs.Numbers.{digits_after, natural_of, negative_of};
 
 const MINUS: u8 = b'-';
-// Where a digit follows a number above this one, the number is above 2^63.
+// If a digit follows a number above this one, the number is above 2^63.
 const LARGE: u64 = 1 << 60;
 
-/// What PHP's string hash begins with.
+/// The initial value of PHP's string hash.
 pub const HASH_START: u64 = 5381;
 
 /// The highest bit of a word. PHP's string hash has it set.
@@ -36,7 +36,7 @@ fn are_digits(digits: &[u8]) -> bool
     digits.iter().all(|digit| digit.is_ascii_digit())
 }
 
-// The number that canonical digits write. There may be none where it is above 2^63.
+// The number that canonical digits write. There may be none if it is above 2^63.
 fn small_number(digits: &[u8]) -> Option<u64>
     ensures { MatchOption result
         ((is_canonical digits.now ≡ false) ⊎ (2 ^ 63 < digits_after 0 digits.now))
@@ -95,7 +95,7 @@ pub fn int_of_text(text: &[u8]) -> Option<i64>
     }
 }
 
-/// A text gives an integer exactly where it is what the integer is written as.
+/// A text gives an integer exactly if it is what the integer is written as.
 pub fn integer_texts()
     ensures written { (text : List ℕ) (n : ℤ) → int_of_text text ≡ Some n
         → (text ≡ signed_decimal n) × FitsSigned w64 n }

@@ -1,4 +1,4 @@
-//! The places of a graph, as they stand in memory.
+//! The places of a graph, as they are in memory.
 
 ghost use Rattle.std.specs.Prelude.{◌≡◌, ◌+◌, ◌-◌, ◌<◌, ◌≤◌, ◌^◌, ◌++◌, ◌∷◌, [], IsTrue, ◌↔◌, List};
 ghost use Rattle.std.specs.Prelude.{length, take, drop, slice_get, slice_set, slice_index, Some};
@@ -20,15 +20,15 @@ use crate::kind::Kind;
 use std::alloc::{AllocError, Global};
 use std::marker::Model;
 
-/// What stands at a place of a graph, and where the graph's image has it, in words.
+/// What is at a place of a graph, and its offset in the graph's image, in words.
 #[derive(Debug, Drop)]
 pub struct Place {
     pub kind: Kind,
     pub at: u64,
 }
 
-// Places, at least one. The first stands here itself, so that a value which is no container takes
-// no memory but its bytes; the others stand together with where the image has each.
+// Places, at least one. The first is in this struct itself, so that a value that is no container
+// allocates no memory except for its bytes; the others are together with the offset of each.
 #[derive(Debug, Drop)]
 pub(crate) struct Places {
     first: Kind,
@@ -60,14 +60,14 @@ impl Places {
         Places { first, others }
     }
 
-    // How many there are.
+    // The number of places.
     pub(crate) fn len(&self) -> usize
         ensures { result ≡ length (kinds_of self.now) }
     {
         self.others.len() + 1
     }
 
-    // What stands at the place with this number, from 0.
+    // What is at the place with this number, from 0.
     #[tactic(auto, using(crate::proofs::PlaceLemmas::other_kind))]
     pub(crate) fn kind(&self, i: usize) -> &Kind
         requires { i < length (kinds_of self.now) }
@@ -80,7 +80,7 @@ impl Places {
         }
     }
 
-    // Where the image has the place with this number, from 0.
+    // The offset in the image of the place with this number, from 0.
     pub(crate) fn at(&self, i: usize) -> u64
         requires { i < length (kinds_of self.now) }
         ensures { result ≡ slice_index (offsets_of self.now) i }
@@ -99,7 +99,7 @@ impl Places {
         Ok(())
     }
 
-    // Takes the last place away, where it is not the only one.
+    // Removes the last place, unless it is the only one.
     pub(crate) fn drop_last(&mut self)
         ensures first { self.new.first ≡ self.old.first }
         ensures others { self.new.others ≡ take (length self.old.others - 1) self.old.others }
@@ -108,7 +108,7 @@ impl Places {
         self.others.truncate(len.saturating_sub(1));
     }
 
-    // Adds a member to the container at this place. Where there is no memory, the key comes back.
+    // Adds a member to the container at this place. If there is no memory, returns the key.
     pub(crate) fn add(&mut self, i: usize, key: Key, child: Child) -> Result<(), Key>
         requires there { i < length (kinds_of self.old) }
         requires room { (kind : Kind) → slice_get (kinds_of self.old) i ≡ Some kind
@@ -127,7 +127,7 @@ impl Places {
         }
     }
 
-    // Writes where the image has each place, and answers the words of all.
+    // Writes the offset of each place, and returns the number of words of all.
     pub(crate) fn lay_out(&mut self) -> u64
         requires { image_length (kinds_of self.old) < 2 ^ 60 }
         ensures kinds { kinds_of self.new ≡ kinds_of self.old }
@@ -138,7 +138,7 @@ impl Places {
         lay_out(&mut self.others, words)
     }
 
-    // Whether the same stands at each place.
+    // Whether the same is at each place.
     pub(crate) fn same(&self, other: &Places) -> bool
         ensures { IsTrue result ↔ (kinds_of self.now ≡ kinds_of other.now) }
     {
@@ -155,7 +155,7 @@ impl Places {
     }
 
     // The places from the one with this number to before that one, from 0, with all numbers
-    // lowered. None where one of them names a place outside.
+    // lowered. None if one of them names a place outside.
     pub(crate) fn lowered(
         &self,
         alloc: Global,
@@ -177,7 +177,7 @@ impl Places {
         Ok(Some(Places { first, others }))
     }
 
-    // The bytes of the only place, where it is a string.
+    // The bytes of the only place, if it is a string.
     pub(crate) fn into_string(self) -> Result<Bytes, Places>
         ensures string { IfOk result (λ bytes. (kinds_of self ≡ Str bytes ∷ []) × AreBytes bytes) }
         ensures other { IfErr result (λ places. (places ≡ self)
@@ -194,8 +194,8 @@ impl Places {
     }
 }
 
-// Writes where the image has each of these places, if the first one stands there, and answers where
-// the next one would.
+// Writes the offset of each of these places, if the first one has the offset `from`, and returns
+// the offset after the last one.
 fn lay_out(places: &mut Vec<Place>, from: u64) -> u64
     requires { from + image_length (kinds_at places.old.items) < 2 ^ 60 }
     ensures kinds { kinds_at places.new.items ≡ kinds_at places.old.items }
@@ -211,7 +211,7 @@ fn lay_out(places: &mut Vec<Place>, from: u64) -> u64
     words
 }
 
-// Whether the same stands at each of these places.
+// Whether the same is at each of these places.
 #[tactic(auto, using(crate::proofs::PlaceLemmas::same_at))]
 fn same_places(places: &[Place], others: &[Place]) -> bool
     ensures { IsTrue result ↔ (kinds_at places.now ≡ kinds_at others.now) }
@@ -239,7 +239,7 @@ fn copied(alloc: Global, places: &[Place]) -> Result<Vec<Place>, AllocError>
     Ok(copies)
 }
 
-// The places with all numbers lowered. None where one of them names a place outside.
+// The places with all numbers lowered. None if one of them names a place outside.
 fn lowered(alloc: Global, places: &[Place], by: u32) -> Result<Option<Vec<Place>>, AllocError>
     ensures { IfOk result (λ made. option_map (λ v. kinds_at v.items) made
         ≡ lowered_places by (kinds_at places.now)) }

@@ -19,8 +19,8 @@ use std::alloc::{AllocError, Global};
 use std::collections::BTreeSet;
 use std::marker::Model;
 
-/// The properties of an object in their order: each name with what it holds.
-/// They stand behind a pointer, so that the many places that are no object stay small.
+/// The properties of an object in their order: each name with what it holds. They are behind a
+/// pointer, so that the many places that are no object stay small.
 #[derive(Debug, Drop)]
 pub struct Props {
     pub(crate) items: Box<Vec<(Bytes, Child)>>,
@@ -66,7 +66,7 @@ impl Props {
         item.1 = child;
     }
 
-    /// How many there are.
+    /// The number of properties.
     pub fn len(&self) -> u32
         ensures { result ≡ length self.now }
     {
@@ -90,7 +90,7 @@ impl Props {
         (&item.0, item.1)
     }
 
-    // Adds a property. Where there is no memory, the name comes back.
+    // Adds a property. If there is no memory, returns the name.
     pub(crate) fn push(&mut self, name: Bytes, child: Child) -> Result<(), Bytes>
         requires { length self.old + 1 < 2 ^ 32 }
         ensures ok { OnOk result (self.new ≡ self.old ++ (name, child) ∷ []) }
@@ -131,7 +131,7 @@ impl Props {
         Ok(set)
     }
 
-    // Whether the name is there.
+    // Whether it has the name.
     pub(crate) fn has_name(&self, name: &Bytes) -> bool
         ensures { result ≡ holds_key (map (λ p. Str p.0) self.now) (Str name.now) }
     {
@@ -170,7 +170,7 @@ impl Props {
         Ok(Props { items })
     }
 
-    // The same properties in a graph whose numbers are lowered by so much. None where one of them
+    // The same properties in a graph whose numbers are lowered by this amount. None if one of them
     // is none of its places.
     pub(crate) fn lowered(&self, alloc: Global, by: u32) -> Result<Option<Props>, AllocError>
         ensures { IfOk result (λ lowered. lowered ≡ lowered_members by self.now) }
