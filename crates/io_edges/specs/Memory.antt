@@ -8,9 +8,9 @@ use Rattle.io_edges.specs.declared.sink.Put.{Put}
 use Rattle.io_edges.specs.declared.sink.Put.TheVariants as put
 use Rattle.io_edges.specs.Faults.{one_fault_more}
 
--- A source: the bytes that are left, the most that one read gives, the numbers of the reads that
--- fail, the number of the next read, and the count of faults. Both numbers stay at the last value
--- of a `u64`.
+-- A source: the bytes that are left, the most that one read returns, the numbers of the reads that
+-- fail, the number of the next read, and the count of faults. Both numbers stop at the maximum of a
+-- `u64`.
 pub record Input : Type 0 where
   pub left : List ℕ
   pub piece : ℕ
@@ -22,11 +22,11 @@ pub record Input : Type 0 where
 abbrev pub read_fails : Input → Bool
 read_fails source = list_any (λ number. number == source.call) source.fails
 
--- how many bytes the next read gives, if it does not fail
+-- how many bytes the next read returns, if it does not fail
 abbrev pub read_count : Input → ℕ → ℕ
 read_count source room = min source.piece (min room (length source.left))
 
--- what a read with this much room answers
+-- the result of a read with this much room
 abbrev pub read_answer : Input → ℕ → Got
 read_answer source room =
     if read_fails source then got.Failed
@@ -53,7 +53,7 @@ pub record Output : Type 0 where
   pub call : ℕ
   pub faults : ℕ
 
--- the next write fails: its number is one of those that fail, or the room is taken
+-- the next write fails: its number is one of those that fail, or the room is used up
 abbrev pub write_fails : Output → Bool
 write_fails sink =
     list_any (λ number. number == sink.call) sink.fails || nat_le sink.room (length sink.held)
@@ -62,7 +62,7 @@ write_fails sink =
 abbrev pub write_count : Output → ℕ → ℕ
 write_count sink count = min sink.piece (min count (sink.room - length sink.held))
 
--- what a write of this many bytes answers
+-- the result of a write of this many bytes
 abbrev pub write_answer : Output → ℕ → Put
 write_answer sink count = if write_fails sink then put.Failed else put.Took (write_count sink count)
 

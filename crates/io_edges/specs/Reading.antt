@@ -1,29 +1,29 @@
--- What a read of a source answers, and what it does.
+-- The result and the effect of a read of a source.
 use Rattle.std.specs.Prelude.{◌≡◌, ℕ, ◌≤◌, List, [], length, take, Option}
 use Rattle.std.specs.Io.KnownBytes.{IsAtEnd, prepend_known}
 use Rattle.io_edges.specs.declared.source.Got.{Got}
 use Rattle.io_edges.specs.declared.source.Got.TheVariants.{Took, End, Failed}
 use Rattle.io_edges.specs.Faults.{Rose, one_fault_more}
 
--- the bytes that a read gave: as many of the buffer's first as it says
+-- the bytes that a read returned: as many of the buffer's first as it says
 abbrev pub bytes_given : Got → List ℕ → List ℕ
 bytes_given (Took n) buffer = take n buffer
 bytes_given End buffer = []
 bytes_given Failed buffer = []
 
--- a read that gives bytes gives at least one, and no more than fit the buffer
+-- a read that returns bytes returns at least one, and no more than fit the buffer
 abbrev pub GivesWithin : Got → ℕ → Type 0
 GivesWithin (Took n) room = (1 ≤ n) × (n ≤ room)
 GivesWithin End room = Unit {0}
 GivesWithin Failed room = Unit {0}
 
--- a read answers `End` only where nothing is left, if that is told
+-- a read returns `End` only if nothing is left, if that is reported
 abbrev pub EndsOnlyAtEnd : Got → Option (List ℕ) → Type 0
 EndsOnlyAtEnd (Took n) left = Unit {0}
 EndsOnlyAtEnd End left = IsAtEnd left
 EndsOnlyAtEnd Failed left = Unit {0}
 
--- a read answers `Failed` only where the count of faults rose, and else the count stays
+-- a read returns `Failed` only if the count of faults rose, and otherwise the count is unchanged
 abbrev pub CountsReadFault : Got → ℕ → ℕ → Type 0
 CountsReadFault (Took n) old new = new ≡ old
 CountsReadFault End old new = new ≡ old

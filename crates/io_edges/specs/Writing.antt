@@ -1,4 +1,4 @@
--- What a write to a sink answers, and what it does.
+-- The result and the effect of a write to a sink.
 use Rattle.std.specs.Prelude.{◌≡◌, ℕ, ◌≤◌, List, [], take}
 use Rattle.io_edges.specs.declared.sink.Put.{Put}
 use Rattle.io_edges.specs.declared.sink.Put.TheVariants.{Took, Failed}
@@ -14,7 +14,7 @@ abbrev pub TakesWithin : Put → ℕ → Type 0
 TakesWithin (Took n) count = (1 ≤ n) × (n ≤ count)
 TakesWithin Failed count = Unit {0}
 
--- a write answers `Failed` only where the count of faults rose, and else the count stays
+-- a write returns `Failed` only if the count of faults rose, and otherwise the count is unchanged
 abbrev pub CountsWriteFault : Put → ℕ → ℕ → Type 0
 CountsWriteFault (Took n) old new = new ≡ old
 CountsWriteFault Failed old new = (old ≤ new) × Rose old new

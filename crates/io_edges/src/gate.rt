@@ -1,4 +1,4 @@
-//! Points of a worker's script that a test may wait at.
+//! Points of a worker's script at which a test may hold it.
 
 /// A point that a worker reaches. The number is that of the call in its script, from 0.
 #[derive(Clone, Copy, Debug, PartialEq, Eq)]
@@ -13,15 +13,14 @@ pub enum Point {
     After(u32),
 }
 
-/// Told of each point that a worker reaches. It has no part in any answer: it is there so that a
-/// test can hold one worker at a point until another has come to its own. A call may take as long
-/// as it likes.
+/// Called at each point that a worker reaches. It has no part in any result: a test uses it to hold
+/// one worker at a point until another has reached its own. A call may take any time.
 pub trait Gate {
     /// Is called by a worker at each of its points, and holds it until it returns.
     fn reached(&self, worker: u32, point: Point);
 }
 
-/// A gate that holds nobody.
+/// A gate that holds no worker.
 #[derive(Clone, Copy, Debug, PartialEq, Eq)]
 pub struct NoGate;
 

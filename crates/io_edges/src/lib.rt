@@ -1,5 +1,5 @@
-//! The edges of a program: where bytes come from, where they go, and points at which a test may
-//! hold a worker.
+//! The edges of a program: the sources and sinks of its bytes, and points at which a test may hold
+//! a worker.
 #![tactic(auto)]
 
 mod gate;

@@ -9,8 +9,8 @@ use crate::{Put, Sink};
 use std::alloc::{AllocError, Global};
 use std::marker::Model;
 
-/// A sink in memory, which tells what it holds. Its room is taken when it is made, so no write
-/// takes memory.
+/// A sink in memory, which reports what it holds. Its room is allocated when it is made, so no
+/// write allocates memory.
 #[derive(Drop)]
 pub struct MemSink<'a> {
     bytes: Vec<u8>,
@@ -41,9 +41,9 @@ impl<'a> Model for MemSink<'a> {
 }
 
 impl<'a> MemSink<'a> {
-    /// An empty sink with room for `room` bytes, which is taken here. A write takes at most `piece`
-    /// bytes. The writes whose numbers, from 0, stand in `fails` fail, and so does each where the
-    /// room is taken.
+    /// An empty sink with room for `room` bytes, which is allocated here. A write takes at most
+    /// `piece` bytes. The writes whose numbers, from 0, are in `fails` fail, and so does each when
+    /// the room is used up.
     pub fn new(
         alloc: Global,
         room: usize,

@@ -8,8 +8,8 @@ ghost use Rattle.io_edges.specs.Memory.{read_answer, after_read};
 use crate::{Got, Source};
 use std::marker::Model;
 
-/// A source over bytes in memory, which tells what is left. It reads in pieces of a given size, and
-/// fails at given calls, so that a test can choose both.
+/// A source over bytes in memory, which reports what is left. It reads in pieces of a given size,
+/// and fails at given calls, so that a test can choose both.
 #[derive(Drop)]
 pub struct MemSource<'a> {
     rest: &'a [u8],
@@ -37,8 +37,8 @@ impl<'a> Model for MemSource<'a> {
 }
 
 impl<'a> MemSource<'a> {
-    /// A source of these bytes. A read gives as many as there are and as fit, but at most `piece`.
-    /// The reads whose numbers, from 0, stand in `fails` fail.
+    /// A source of these bytes. A read returns as many as there are and as fit, but at most
+    /// `piece`. The reads whose numbers, from 0, are in `fails` fail.
     pub fn new(bytes: &'a [u8], piece: usize, fails: &'a [u64]) -> MemSource<'a>
         requires { 1 ≤ piece }
         ensures { result ≡ record {

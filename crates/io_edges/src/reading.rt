@@ -19,7 +19,7 @@ pub enum ReadError {
     /// A read of the source failed.
     #[error("read fault")]
     Fault,
-    /// The source gave more bytes than the limit.
+    /// The source has more bytes than the limit.
     #[error("input too long")]
     TooLong,
 }
@@ -27,9 +27,9 @@ pub enum ReadError {
 // The most bytes that one read is asked for.
 const PIECE: usize = 65536;
 
-/// Reads all that a source has left, if that is at most `limit` bytes, of which one more at most is
-/// read. The memory that it takes grows with the bytes that came. After an error the bytes that
-/// came are gone.
+/// Reads all that a source has left, if that is at most `limit` bytes; it reads at most one byte
+/// more. The memory that it allocates grows with the bytes that were read. After an error these
+/// bytes are lost.
 pub fn read_all<S: Source>(alloc: Global, input: &mut S, limit: usize) -> Result<Vec<u8>, ReadError>
     // The bytes are all that was left, and nothing is left now.
     ensures all { IfOk result (λ bytes. IfSome (S.left input.old) (λ left. bytes.items ≡ left)) }
@@ -38,7 +38,7 @@ pub fn read_all<S: Source>(alloc: Global, input: &mut S, limit: usize) -> Result
     ensures end { OnOk result (IsAtEnd (S.left input.new)) }
     ensures within { IfOk result (λ bytes. vec_len bytes ≤ limit) }
 
-    // It is too long where more than the limit was left, of which just one more was read.
+    // It is too long if more than the limit was left, of which just one more was read.
     ensures too_long { IsErrOf result ReadError.TooLong
         → IfSome (S.left input.old) (λ left. limit < length left) }
     ensures one_more { IsErrOf result ReadError.TooLong
@@ -51,7 +51,7 @@ pub fn read_all<S: Source>(alloc: Global, input: &mut S, limit: usize) -> Result
         → S.faults input.new ≡ S.faults input.old }
     ensures never_falls { S.faults input.old ≤ S.faults input.new }
 
-    // After any other error a part of what was left is gone, and no more of it than the limit.
+    // After any other error a part of what was left is lost, and no more of it than the limit.
     ensures part { OnErr result (¬ IsErrOf result ReadError.TooLong
         → HasTakenWithin (S.left input.old) (S.left input.new) limit) }
 {

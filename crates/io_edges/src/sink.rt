@@ -1,13 +1,13 @@
-//! Where bytes go.
+//! The sinks of bytes.
 
 ghost use Rattle.std.specs.Prelude.{◌≡◌, ℕ, ◌<◌, List, length, Option};
 ghost use Rattle.std.specs.Io.KnownBytes.{append_known};
 ghost use Rattle.io_edges.specs.Writing.{bytes_taken, TakesWithin, CountsWriteFault};
 
-/// What a write answers.
+/// The result of a write.
 #[derive(Clone, Copy, Debug, PartialEq, Eq)]
 pub enum Put {
-    /// So many of the first bytes were taken.
+    /// This many of the first bytes were taken.
     Took(usize),
     /// The write failed, and took nothing.
     Failed,
@@ -15,20 +15,20 @@ pub enum Put {
 
 /// Takes bytes, in pieces of its own choice.
 pub trait Sink {
-    /// The bytes that were taken so far, or `None` where the sink does not tell.
+    /// The bytes that were taken so far, or `None` if the sink does not report them.
     ghost held: { Self → Option (List ℕ) };
 
-    /// How often a write has failed. The count stays at the last value of a `u64`.
+    /// How often a write has failed. The count stops at the maximum of a `u64`.
     ghost faults: { Self → ℕ };
 
     /// Takes some of the first bytes of `from`.
     fn write(&mut self, from: &[u8]) -> Put
         requires { 0 < length from.now }
 
-        // One byte at least, and no more than there are.
+        // At least one byte, and no more than there are.
         ensures took { TakesWithin result (length from.now) }
 
-        // What is taken stands behind what is held.
+        // What is taken follows what is held.
         ensures bytes { held self.new ≡ append_known (held self.old) (bytes_taken result from.now) }
 
         // A failure has its cause, and nothing else raises the count.

@@ -8,9 +8,9 @@ ghost use Rattle.io_edges.specs.Writing.{faults_after_write};
 use crate::{Put, Sink};
 use std::io::{ErrorKind, Stderr, Stdout, Write};
 
-/// A sink over a writer, as standard output. It tells nothing of what it holds, since no contract
-/// can say what a stream received. Each error counts as a fault, and so does a write that takes 0
-/// bytes. It keeps no bytes back, and does not flush a writer that does.
+/// A sink over a writer, such as standard output. It does not report what it holds, because no
+/// contract can say what a stream received. Each error counts as a fault, and so does a write that
+/// takes 0 bytes. It does not buffer, and does not flush a writer that does.
 #[derive(Drop)]
 pub struct StdSink<W> {
     writer: W,
@@ -58,7 +58,7 @@ impl<W: Write> Sink for StdSink<W> {
         ensures took { TakesWithin result (length from.now) }
         ensures faults { CountsWriteFault result self.old.failures self.new.failures }
 
-        // Of a writer that tells its bytes, what is taken stands behind them.
+        // If a writer reports its bytes, what is taken follows them.
         ensures taken { Appends (W.contents self.old.writer) (W.contents self.new.writer)
             (bytes_taken result from.now) }
         ensures failures { self.new.failures ≡ faults_after_write result self.old.failures }
@@ -73,7 +73,7 @@ impl<W: Write> Sink for StdSink<W> {
     }
 }
 
-// One write, made again where a signal cut it off. `None` is an error.
+// One write, repeated if a signal interrupted it. `None` is an error.
 fn write_retrying<W: Write>(writer: &mut W, from: &[u8]) -> Option<usize>
     ensures bound { IfSome result (λ count. count ≤ length from.now) }
     ensures taken { MatchOption result (Keeps (W.contents writer.old) (W.contents writer.new))

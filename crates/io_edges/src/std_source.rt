@@ -8,8 +8,9 @@ ghost use Rattle.io_edges.specs.Reading.{faults_after_read};
 use crate::{Got, Source};
 use std::io::{ErrorKind, Read, Stdin};
 
-/// A source over a reader, as standard input. It tells nothing of what is left, since no contract
-/// can say what a stream holds. A read of 0 bytes is the end. Each error counts as a fault.
+/// A source over a reader, such as standard input. It does not report what is left, because no
+/// contract can say what a stream holds. A read of 0 bytes is the end. Each error counts as a
+/// fault.
 #[derive(Drop)]
 pub struct StdSource<R> {
     reader: R,
@@ -48,7 +49,7 @@ impl<R: Read> Source for StdSource<R> {
         ensures took { GivesWithin result (length into.new) }
         ensures faults { CountsReadFault result self.old.failures self.new.failures }
 
-        // Of a reader that tells its bytes, what is given is what comes next, and the end is its
+        // If a reader reports its bytes, what is returned is what comes next, and the end is its
         // end.
         ensures given { Consumes (R.remaining self.old.reader) (R.remaining self.new.reader)
             (bytes_given result into.new) }
@@ -66,7 +67,7 @@ impl<R: Read> Source for StdSource<R> {
     }
 }
 
-// One read, made again where a signal cut it off. `None` is an error.
+// One read, repeated if a signal interrupted it. `None` is an error.
 fn read_retrying<R: Read>(reader: &mut R, into: &mut [u8]) -> Option<usize>
     ensures bound { IfSome result (λ count. count ≤ length into.new) }
     ensures given { MatchOption result (Keeps (R.remaining reader.old) (R.remaining reader.new))

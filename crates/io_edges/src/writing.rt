@@ -1,4 +1,4 @@
-//! All of some bytes, written to a sink.
+//! Writing all of some bytes to a sink.
 
 ghost use Rattle.std.specs.Prelude.{◌≡◌, ◌<◌, ◌≤◌, ℕ, length, take, OnOk, OnErr};
 ghost use Rattle.std.specs.Io.KnownBytes.{append_known};
@@ -12,7 +12,7 @@ use thiserror::Error;
 #[error("write fault")]
 pub struct WriteFault;
 
-/// Writes all of these bytes, in as many writes as the sink wants. It takes no memory.
+/// Writes all of these bytes, in as many writes as the sink wants. It allocates no memory.
 pub fn write_all<K: Sink>(out: &mut K, bytes: &[u8]) -> Result<(), WriteFault>
     ensures all { OnOk result (K.held out.new ≡ append_known (K.held out.old) bytes.now) }
 
