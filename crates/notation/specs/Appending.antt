@@ -9,8 +9,8 @@ pub record Extends (before now : List ℕ) : Type 0 where
   pub added : List ℕ
   pub is : now ≡ before ++ added
 
--- the key of a member was appended, and what the member holds is answered; nothing where there is
--- no member
+-- the key of a member was appended, and what the member holds is returned; nothing if there is no
+-- member
 abbrev pub MemberStep : Option (Key × Child) → Option Child → List ℕ → List ℕ → Type 0
 MemberStep None held before now = (held ≡ None) × (now ≡ before)
 MemberStep (Some m) held before now = (held ≡ Some m.1) × (now ≡ before ++ key_text m.0)

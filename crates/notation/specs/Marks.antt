@@ -1,6 +1,6 @@
--- The parts of the notation that lie in no other: marks, numbers, and byte strings with their
--- length before them. Each is read from the front of the bytes, and answers what it says and the
--- bytes after it, or the first fault.
+-- The tokens of the notation: marks, numbers, and byte strings with their length before them. Each
+-- is read from the front of the bytes, and gives its meaning and the bytes after it, or the first
+-- fault.
 use Rattle.std.specs.Prelude.{◌≡◌, ℕ, ◌+◌, ◌^◌, Bool, true, false, ◌&&◌, ◌||◌, not, ◌==◌, nat_lt}
 use Rattle.std.specs.Prelude.{if◌then◌else◌, List, [], ◌∷◌, length, take, drop, slice_index, Option}
 use Rattle.std.specs.Prelude.{Some, None, Result, Ok, Err, ℤ, pos, negsuc}
@@ -18,7 +18,7 @@ abbrev pub ◌>>=◌ : {A B : Type 0} → Result A Fault → (A → Result B Fau
 (Ok x) >>= f = f x
 (Err e) >>= f = Err e
 
--- What a function returned, seen by view, is what reading gives.
+-- The result of a function, by its view, is what reading gives.
 abbrev pub Reads : {X Y : Type 0} → (X → Y) → Result X Fault → Result Y Fault → Type 0
 Reads view (Ok x) read = read ≡ Ok (view x)
 Reads view (Err e) read = read ≡ Err e
@@ -32,24 +32,24 @@ abbrev pub Gives : {X Y : Type 0} → (X → Y) → Result X Stop → Result Y F
 Gives view (Ok x) read = read ≡ Ok (view x)
 Gives view (Err e) read = Fails e read
 
--- a fault where these bytes are left
+-- a fault at which these bytes are left
 abbrev pub fail : {A : Type 0} → Reason → List ℕ → Result A Fault
 fail reason bytes = Err (record { reason = reason; left = length bytes })
 
--- the bytes after the one that is due
+-- the bytes after the expected one
 abbrev pub mark_at : ℕ → List ℕ → Result (List ℕ) Fault
 mark_at mark [] = fail End []
 mark_at mark (b ∷ rest) = if b == mark then Ok rest else fail Mark (b ∷ rest)
 
--- a byte that cannot stand in a number
+-- a byte that cannot be in a number
 abbrev pub ends_number : ℕ → Bool
 ends_number b = not (is_ascii_digit b || b == 45)
 
--- how long the longest run of digits and minus signs in front is
+-- the length of the longest run of digits and minus signs in front
 abbrev pub number_len : List ℕ → ℕ
 number_len bytes = position_or_len ends_number bytes
 
--- the number that was found, with the bytes after its run, or else a fault at the run
+-- the number that was found, with the bytes after its run, or otherwise a fault at the run
 abbrev pub found : {A : Type 0} → Option A → List ℕ → List ℕ → Result (A × List ℕ) Fault
 found (Some x) rest run = Ok (x, rest)
 found None rest run = fail Number run
@@ -66,7 +66,7 @@ abbrev pub as_natural : ℤ → Option ℕ
 as_natural (pos n) = if nat_lt n (2 ^ 32) then Some n else None
 as_natural (negsuc n) = None
 
--- a truth value: 1 or 0
+-- a boolean: 1 or 0
 abbrev pub as_truth : ℤ → Option Bool
 as_truth (pos n) = if n == 0 then Some false else if n == 1 then Some true else None
 as_truth (negsuc n) = None
@@ -78,8 +78,8 @@ number_as choose bytes = number_at bytes >>= λ n. found (choose n.0) n.1 bytes
 abbrev pub natural_at : List ℕ → Result (ℕ × List ℕ) Fault
 natural_at bytes = number_as as_natural bytes
 
--- So many bytes with a quote behind them, and the bytes after that. The fault is at the number that
--- says how many there are.
+-- This many bytes followed by a quote, and the bytes after that. A fault is at the number that is
+-- their length.
 abbrev pub quoted_at : ℕ → List ℕ → List ℕ → Result (List ℕ × List ℕ) Fault
 quoted_at n number bytes =
     if nat_lt n (length bytes) && slice_index bytes n == 34
@@ -110,7 +110,7 @@ integer_at bytes = do
   rest ← mark_at 59 n.1
   Ok (n.0, rest)
 
--- how many members there are, and what opens them
+-- the number of members, and what opens them
 unfoldable pub count_at : List ℕ → Result (ℕ × List ℕ) Fault
 count_at bytes = do
   number ← mark_at 58 bytes

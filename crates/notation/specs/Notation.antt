@@ -23,7 +23,7 @@ abbrev pub key_text : Key → List ℕ
 key_text (keys.Int n) = integer_text n
 key_text (keys.Str bytes) = string_text bytes
 
--- what stands before the members: how many there are
+-- what precedes the members: their number
 abbrev pub array_head : ℕ → List ℕ
 array_head count = codes "a:" ++ decimal count ++ codes ":{"
 

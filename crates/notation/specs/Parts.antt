@@ -1,4 +1,4 @@
--- The parts of a place's text: what stands before its members, and from a member on.
+-- The parts of a place's text: what precedes its members, and the text from a member on.
 use Rattle.std.specs.Prelude.{ℕ, List, [], ◌++◌, length, map, drop, codes, Option, Some, None}
 use Rattle.std.specs.Fmt.{decimal}
 use Rattle.php_graph.specs.declared.key.Key.{Key}
@@ -8,7 +8,7 @@ use Rattle.php_graph.specs.declared.kind.Kind.TheVariants as kinds
 use Rattle.php_graph.specs.Building.{named}
 use Rattle.notation.specs.Notation.{kind_text, member_texts, array_head, object_head}
 
--- what stands before the bytes of a string: how many there are
+-- what precedes the bytes of a string: their number
 abbrev pub string_head : ℕ → List ℕ
 string_head count = codes "s:" ++ decimal count ++ codes ":\""
 

@@ -1,4 +1,4 @@
--- Where a reader stands.
+-- The position of a reader.
 use Rattle.std.specs.Prelude.{ℕ, List, drop}
 
 -- all bytes, and the number of those that were read

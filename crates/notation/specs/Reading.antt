@@ -19,7 +19,7 @@ use Rattle.notation.specs.declared.fault.Fault.{Fault}
 use Rattle.notation.specs.Marks.{◌>>=◌, fail, mark_at, number_as, as_truth, natural_at, sized_at}
 use Rattle.notation.specs.Marks.{string_at, integer_at, count_at}
 
--- the word for what a graph that is being written refuses
+-- the reason for what a graph that is being written refuses
 abbrev pub reason_of : BuildFault → Reason
 reason_of faults.Memory = End
 reason_of faults.TooDeep = Depth
@@ -29,7 +29,7 @@ reason_of faults.RepeatedKey = Repeat
 reason_of faults.BadClass = Class
 reason_of faults.IntegerText = Integer
 
--- The draft with one item more, or what is wrong with the item: a fault where these bytes are left.
+-- The draft with one more item, or the fault of the item, at these remaining bytes.
 abbrev pub put_unless : Option BuildFault → Draft → List ℕ → Result Draft Fault
 put_unless None d at = Ok d
 put_unless (Some fault) d at = fail (reason_of fault) at
@@ -37,8 +37,8 @@ put_unless (Some fault) d at = fail (reason_of fault) at
 abbrev pub put_at : Draft → Item → List ℕ → Result Draft Fault
 put_at d item at = put_unless (fault_of d item) (pushed d item) at
 
--- What was read of a value: the draft with it, how many members are to come if it is a container,
--- and the bytes that are left.
+-- What was read of a value: the draft with it, the number of its members if it is a container, and
+-- the bytes that are left.
 abbrev pub Begun : Type 0
 Begun = Draft × Option ℕ × List ℕ
 
@@ -70,7 +70,7 @@ str_at d bytes = do
   e ← put_at d (items.Str text.0) bytes
   Ok (e, None, text.1)
 
--- A number of a place is at fault where it stands.
+-- The fault of a place's number is at that number.
 unfoldable pub same_at : Draft → List ℕ → Result Begun Fault
 same_at d bytes = do
   number ← mark_at 58 bytes
@@ -93,7 +93,7 @@ array_at d bytes = do
   e ← put_at d items.OpenArray bytes
   Ok (e, Some n.0, n.1)
 
--- A class is at fault at the object's letter.
+-- The fault of a class is at the object's letter.
 unfoldable pub object_at : Draft → List ℕ → List ℕ → Result Begun Fault
 object_at d at bytes = do
   class ← sized_at bytes
@@ -144,8 +144,8 @@ key_tagged_at integers tag rest =
     else if tag == 105 && integers then (integer_at rest >>= λ n. Ok (keys.Int n.0, n.1))
     else fail Tag (tag ∷ rest)
 
--- A key of an array, or a name of an object, by what the innermost container takes. A key is at
--- fault at its first byte.
+-- A key of an array, or a name of an object, by what the innermost container takes. The fault of a
+-- key is at its first byte.
 unfoldable pub key_at : Draft → List ℕ → Result (Draft × List ℕ) Fault
 key_at d [] = fail End []
 key_at d (tag ∷ rest) = do
@@ -155,7 +155,7 @@ key_at d (tag ∷ rest) = do
 
 -- ---- members, and values with them
 
--- so many members, where this reads what they hold
+-- this many members, if this reads what they hold
 abbrev pub members_at : (Draft → List ℕ → Result (Draft × List ℕ) Fault) → ℕ → Draft → List ℕ
     → Result (Draft × List ℕ) Fault
 members_at value zero d bytes = Ok (d, bytes)
@@ -175,12 +175,12 @@ abbrev pub rest_of_value : (Draft → List ℕ → Result (Draft × List ℕ) Fa
 rest_of_value value (d, None, bytes) = Ok (d, bytes)
 rest_of_value value (d, Some n, bytes) = members_at value n d bytes >>= λ m. closed_at m.0 m.1
 
--- a value, where this reads what its members hold
+-- a value, if this reads what its members hold
 abbrev pub value_with : (Draft → List ℕ → Result (Draft × List ℕ) Fault) → Draft → List ℕ
     → Result (Draft × List ℕ) Fault
 value_with value d bytes = begun_at d bytes >>= rest_of_value value
 
--- A value, as far as the levels go. No value begins deeper: there is no room for it.
+-- A value, as far as the levels go. No value is nested deeper: there is no room for it.
 unfoldable pub value_at : ℕ → Draft → List ℕ → Result (Draft × List ℕ) Fault
 value_at zero d bytes = value_with (λ e inner. fail Depth inner) d bytes
 value_at (suc level) d bytes = value_with (value_at level) d bytes

@@ -1,4 +1,4 @@
--- What one item does to a graph that is being read, as far as a reader looks at it.
+-- The effect of one item on a graph that is being read, as far as a reader uses it.
 use Rattle.std.specs.Prelude.{◌≡◌, ℕ, ◌+◌, ◌<◌, Bool, true, false, length, Option, Some, None}
 use Rattle.php_graph.specs.declared.item.Item.{Item}
 use Rattle.php_graph.specs.declared.item.Item.TheVariants as items
@@ -22,7 +22,7 @@ pub record IsValueStep (before after : Draft) (containers : ℕ) : Type 0 where
   pub no_key : after.key ≡ None
   pub some : 0 < length after.places
 
--- a key, or the end of a container, is due
+-- a key, or the end of a container, is expected
 abbrev pub wants_key : Wants → Bool
 wants_key wants.ArrayKey = true
 wants_key wants.Name = true

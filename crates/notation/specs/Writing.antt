@@ -1,4 +1,4 @@
--- Writing a value without going down into it: what was begun and is still to be ended.
+-- Writing a value without recursion: what was begun and is still to be ended.
 use Rattle.std.specs.Prelude.{◌≡◌, ℕ, suc, ◌-◌, ◌<◌, ◌≤◌, List, [], ◌∷◌, ◌++◌, length, map, drop}
 use Rattle.std.specs.Prelude.{Option, Some}
 use Rattle.php_graph.specs.declared.child.Child.{Child}
@@ -34,8 +34,8 @@ pub record EndsSomewhere (level : ℕ) (g : List Kind) (c : Child) : Type 0 wher
   pub to : ℕ
   pub ends : child_end level g c from ≡ Some to
 
--- What a member holds was begun: what was written before and is still to be written are what they
--- were before, with its text between them.
+-- What a member holds was begun: what was written before and is still to be written are unchanged,
+-- with its text between them.
 pub record IsChildBegun (base : ℕ) (g : List Kind) (c : Child) (before after : List Frame)
     (old new : List ℕ) : Type 0 where
   pub written : new ++ pending base g after
@@ -43,7 +43,7 @@ pub record IsChildBegun (base : ℕ) (g : List Kind) (c : Child) (before after :
   pub begun : AreBegun g before → AreBegun g after
   pub longer : length old ≤ length new
 
--- One more step was made: what is written, with what is still to be written, is what it was.
+-- One more step was made: what is written, with what is still to be written, is unchanged.
 pub record IsStepMade (base : ℕ) (g : List Kind) (before after : List Frame) (old new : List ℕ)
     : Type 0 where
   pub written : new ++ pending base g after ≡ old ++ pending base g before

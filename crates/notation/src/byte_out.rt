@@ -30,7 +30,7 @@ impl ByteOut {
         }
     }
 
-    /// Appends these bytes, or has no memory for them and stays as it was.
+    /// Appends these bytes; without memory for them it is unchanged.
     pub fn push(&mut self, from: &[u8]) -> Result<(), AllocError>
         ensures ok { OnOk result (self.new ≡ self.old ++ from.now) }
         ensures err { OnErr result (self.new ≡ self.old) }
@@ -45,7 +45,7 @@ impl ByteOut {
         ByteOut { bytes }
     }
 
-    /// Hands the bytes out, for one that writes into their memory and gives them back.
+    /// Moves the bytes out, for a caller that writes into their memory and returns them.
     pub fn take(&mut self) -> Vec<u8>
         ensures bytes { result.items ≡ self.old }
         ensures left { self.new ≡ [] }
@@ -62,7 +62,8 @@ impl ByteOut {
         bytes
     }
 
-    /// The allocator of the bytes, for one that writes them and needs memory of its own for it.
+    /// The allocator of the bytes, for a caller that writes them and needs memory of its own for
+    /// it.
     pub fn alloc(&self) -> Global {
         *self.bytes.allocator()
     }

@@ -6,7 +6,7 @@ ghost use Rattle.notation.specs.Place.{Standing, left};
 
 use std::marker::Model;
 
-/// A place in a row of bytes, from which reading goes on. Contracts see the bytes and the place,
+/// A place in a row of bytes, at which reading continues. Contracts see the bytes and the place,
 /// which is never past their end.
 #[derive(Drop)]
 pub struct Cursor<'a> {
@@ -26,7 +26,7 @@ impl<'a> Model for Cursor<'a> {
 }
 
 impl<'a> Cursor<'a> {
-    /// Stands before the first byte.
+    /// At the first byte.
     pub fn new(bytes: &'a [u8]) -> Cursor<'a>
         ensures { result ≡ record { bytes = bytes.now; place = 0 } }
     {
@@ -48,7 +48,7 @@ impl<'a> Cursor<'a> {
         self.bytes.get(self.place).copied()
     }
 
-    /// Passes the next byte.
+    /// Skips the next byte.
     pub fn skip(&mut self)
         requires { IsSome (slice_get (left self.old) 0) }
         ensures { self.new ≡ record self.old { place = self.old.place + 1 } }
@@ -64,7 +64,7 @@ impl<'a> Cursor<'a> {
         &self.bytes[self.place..]
     }
 
-    // Goes on to where so many bytes are left.
+    // Skips to where `count` bytes are left.
     pub(crate) fn leave(&mut self, count: usize)
         requires { count ≤ length (left self.old) }
         ensures place { self.new.place + count ≡ length self.old.bytes }
@@ -73,7 +73,7 @@ impl<'a> Cursor<'a> {
         self.place = self.bytes.len() - count;
     }
 
-    // The place from which so many bytes are left.
+    // The place at which `count` bytes are left.
     pub(crate) fn place_before(&self, count: usize) -> u64
         requires { count ≤ length self.now.bytes }
         ensures { result + count ≡ length self.now.bytes }

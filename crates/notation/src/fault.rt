@@ -9,19 +9,19 @@ use thiserror::Error;
 /// What is wrong with the bytes, in the order of the notation's faults.
 #[derive(Clone, Copy, Debug, PartialEq, Eq, Error)]
 pub enum Reason {
-    /// The bytes end where more are due.
+    /// The bytes end although more are expected.
     #[error("end")]
     End,
-    /// A byte that begins no value, key or name that may stand there.
+    /// A byte that begins no value, key or name that is allowed there.
     #[error("tag")]
     Tag,
-    /// No number of the range, in its canonical decimal.
+    /// Not a number of the range in canonical decimal.
     #[error("number")]
     Number,
-    /// A string's bytes are not all there, or no quote stands behind them.
+    /// A string's bytes are not all there, or are not followed by a quote.
     #[error("length")]
     Length,
-    /// Not the mark that is due: `:`, `;`, `"`, `{` or `}`.
+    /// Not the expected mark: `:`, `;`, `"`, `{` or `}`.
     #[error("mark")]
     Mark,
     /// A value inside 512 containers.
@@ -33,10 +33,10 @@ pub enum Reason {
     /// A number that names no place, or no object, that began before.
     #[error("target")]
     Target,
-    /// A key or a name that is there already.
+    /// A key or a name that exists already.
     #[error("repeat")]
     Repeat,
-    /// No name of a class.
+    /// Not the name of a class.
     #[error("class")]
     Class,
     /// An array's string key that is an integer's decimal.
@@ -45,16 +45,16 @@ pub enum Reason {
     /// A line that begins with no known word.
     #[error("line")]
     Line,
-    /// Neither a space nor a line feed where one is due.
+    /// Neither a space nor a line feed, one of which is expected.
     #[error("separator")]
     Separator,
-    /// An argument too many, or one of the wrong kind or range, or none where one is due.
+    /// An argument too many, or one of the wrong kind or range, or a missing one.
     #[error("argument")]
     Argument,
     /// A script too many.
     #[error("workers")]
     Workers,
-    /// Generators that lie too deep.
+    /// Generators that are nested too deep.
     #[error("generator")]
     Generator,
 }
@@ -71,8 +71,8 @@ pub enum ReadFault {
     Memory,
 }
 
-/// The first fault, and how many bytes are left from where it is: what reads a part of the bytes
-/// sees none before it, so it can't say a place among all.
+/// The first fault, and how many bytes are left from its place on: a reader of a part of the bytes
+/// sees none before it, so it cannot give a place among all.
 #[derive(Clone, Copy, Debug)]
 pub struct Fault {
     pub reason: Reason,

@@ -32,7 +32,7 @@ fn reason(fault: BuildFault) -> Reason
     }
 }
 
-// One item more. What is wrong with it is a fault where these bytes are left.
+// One more item. If it is wrong, the fault is at these remaining bytes.
 fn put(builder: &mut Builder, item: Item, at: &[u8]) -> Result<(), Stop>
     requires { IsTrue (item_fits (wants_of builder.old) item) }
     ensures read { Gives (λ u. builder.new) result (put_at builder.old item at.now) }
@@ -199,7 +199,7 @@ fn is_value_tag(b: u8) -> bool
             || (b == b'i' || (b == b's' || (b == b'a' || (b == b'O' || (b == b'r' || b == b'R'))))))
 }
 
-// A value up to its members, and how many of them are to come if it is a container.
+// A value up to its members, and their number if it is a container.
 #[tactic(auto, unfolding(crate::specs::Reading::begun_at))]
 pub(crate) fn begun<'a>(
     alloc: Global,

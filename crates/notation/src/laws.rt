@@ -9,9 +9,8 @@ ghost use Rattle.notation.specs.Reading.{reading_of};
 
 use php_graph::{graphs_are_written, integer_texts, written_graphs};
 
-/// What reading gives is what is spelled: the text of a value that was read stands in front of
-/// what was left, and the text of a value is read, whatever follows it. What is read of bytes is
-/// a value.
+/// Reading gives what is spelled: the text of a value that was read is before what was left, and
+/// the text of a value is read, whatever follows it. What is read of bytes is a value.
 pub fn readings_are_spellings()
     ensures takes { (bytes : List ℕ) (g : List Kind) (rest : List ℕ) → IsGraph g
         → reading_of bytes ≡ Ok (g, rest) → bytes ≡ text_of g ++ rest }
@@ -31,8 +30,8 @@ pub fn readings_stay_inside()
         (λ x. length x.1 ≤ length bytes) (λ fault. fault.left ≤ length bytes) }
 {}
 
-/// No text of a value is the front of another, whatever is added to the numbers of places: two
-/// texts that go on to the same bytes are of one value, and the same bytes follow them.
+/// No text of a value is a prefix of another, whatever is added to the numbers of places: two texts
+/// that continue to the same bytes are of one value, and the same bytes follow them.
 pub fn texts_tell_values_apart()
     ensures { (base : ℕ) (g h : List Kind) (x y : List ℕ) → base < 2 ^ 56 → IsGraph g → IsGraph h
         → text_from base g ++ x ≡ text_from base h ++ y → (g ≡ h) × (x ≡ y) }

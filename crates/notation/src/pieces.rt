@@ -1,4 +1,4 @@
-//! The parts of a text, each appended whole.
+//! The parts of a text, each appended as a whole.
 
 ghost use Rattle.std.specs.Prelude.{◌≡◌, ℕ, ◌+◌, ◌<◌, ◌^◌, List, [], ◌∷◌, ◌++◌, length, codes};
 ghost use Rattle.std.specs.Prelude.{slice_get, OnOk, OnErr, IfOk, IsSome, MatchOption, Some, None};
@@ -20,9 +20,8 @@ use itoa::Buffer;
 use php_graph::{Bytes, Child, Key, Kind, int_of_text};
 use std::alloc::AllocError;
 
-/// Appends a key's text: `i:n;` where the key is the canonical decimal of the 64-bit integer n,
-/// as PHP takes it for that integer, and else `s:len:"key";`. Without memory `out` stays as it
-/// was.
+/// Appends a key's text: `i:n;` if the key is the canonical decimal of the 64-bit integer n, as PHP
+/// takes it for that integer, and otherwise `s:len:"key";`. Without memory `out` is unchanged.
 pub fn write_key(key: &[u8], out: &mut ByteOut) -> Result<(), AllocError>
     ensures ok { OnOk result (out.new ≡ out.old ++ written_key (int_of_text key.now) key.now) }
     ensures err { OnErr result (out.new ≡ out.old) }
@@ -41,7 +40,7 @@ pub fn write_key(key: &[u8], out: &mut ByteOut) -> Result<(), AllocError>
     }
 }
 
-// A place up to its members, and whether it has members to come.
+// A place up to its members, and whether members follow.
 pub(crate) fn put_start(kind: &Kind, base: u64, out: &mut ByteOut) -> Result<bool, AllocError>
     requires { base < 2 ^ 56 }
     ensures ok { IfOk result (λ opened. (out.new ≡ out.old ++ start_text base kind.now)
@@ -67,8 +66,7 @@ pub(crate) fn put_start(kind: &Kind, base: u64, out: &mut ByteOut) -> Result<boo
     Ok(false)
 }
 
-// The key of the member with this number, and what the member holds; nothing behind the last
-// member.
+// The key of the member with this number, and what the member holds; nothing after the last member.
 pub(crate) fn put_key_of(
     kind: &Kind,
     i: u32,
@@ -145,8 +143,8 @@ fn put_integer(n: i64, out: &mut ByteOut) -> Result<(), AllocError>
     out.push(b";")
 }
 
-/// Appends what stands before the bytes of a string that has so many. Without memory some first of
-/// it may stand there.
+/// Appends what precedes the bytes of a string of `count` bytes. Without memory only the first part
+/// of it may have been appended.
 pub fn write_string_head(count: usize, out: &mut ByteOut) -> Result<(), AllocError>
     ensures ok { OnOk result (out.new ≡ out.old ++ string_head count) }
     ensures err { OnErr result (Extends out.old out.new) }

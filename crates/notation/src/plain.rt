@@ -13,8 +13,8 @@ use php_graph::{Bytes, Graph, Kind};
 use seg_words::words_in;
 use std::alloc::{AllocError, Global};
 
-/// The bytes of the string whose text stands in front, and what follows its text; nothing where no
-/// string begins there. Else the answer is the first fault from the left. It takes no memory.
+/// The bytes of the string whose text is in front, and what follows its text; nothing if no string
+/// begins there. Otherwise the first fault from the left. It allocates no memory.
 pub fn read_string(bytes: &[u8]) -> Result<Option<(&[u8], &[u8])>, Fault>
     ensures found { IfOk result (λ read. IfSome read (λ x.
         reading_of bytes.now ≡ Ok (Str x.0.now ∷ [], x.1.now))) }
@@ -29,8 +29,8 @@ pub fn read_string(bytes: &[u8]) -> Result<Option<(&[u8], &[u8])>, Fault>
     }
 }
 
-/// The integer whose text stands in front, and what follows its text; nothing where no integer
-/// begins there. Else the answer is the first fault from the left. It takes no memory.
+/// The integer whose text is in front, and what follows its text; nothing if no integer begins
+/// there. Otherwise the first fault from the left. It allocates no memory.
 pub fn read_integer(bytes: &[u8]) -> Result<Option<(i64, &[u8])>, Fault>
     ensures found { IfOk result (λ read. IfSome read (λ x.
         reading_of bytes.now ≡ Ok (Int x.0 ∷ [], x.1.now))) }

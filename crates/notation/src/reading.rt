@@ -19,19 +19,19 @@ use crate::plain::{integer_graph, read_integer, read_string, string_graph};
 use php_graph::{Builder, Graph, Wants, graphs_are_written, integer_texts};
 use std::alloc::{AllocError, Global};
 
-/// Reads the value whose text starts at the cursor, and goes on to what follows it. The notation
+/// Reads the value whose text starts at the cursor, and advances to what follows it. The notation
 /// is that of PHP's `serialize` and `unserialize`: `R:k;` takes no number, and shares the value
 /// that took the number k; `r:k;` takes a number of its own, and names the object that took the
-/// number k. Where no text of a value starts there, the answer is the first fault from the left,
-/// with the place of its byte. Memory is taken only for bytes that are there. After a fault the
-/// cursor stands where it stood.
+/// number k. If no text of a value starts there, the error is the first fault from the left, with
+/// the place of its byte. Memory is allocated only for bytes that are there. After a fault the
+/// cursor has not moved.
 ///
 ///     let mut from = Cursor::new(b"s:5:\"hello\";");
 ///     let value = read_value(alloc, &mut from)?;
 pub fn read_value(alloc: Global, from: &mut Cursor) -> Result<Graph, ReadFault>
     // It is what reading from left to right gives: the value, or the first fault.
     ensures read { IsReading from.old from.new result }
-    // What is read is spelled there, and the cursor stands after it.
+    // What is read is spelled there, and the cursor is after it.
     ensures found { IfOk result (λ g. IsPassedOver from.old from.new g) }
     ensures place { IfOk result (λ g. from.new.place ≡ from.old.place + length (text_of g)) }
     // What is spelled there is read, unless memory runs out.
@@ -56,7 +56,7 @@ pub fn read_value(alloc: Global, from: &mut Cursor) -> Result<Graph, ReadFault>
     }
 }
 
-// A whole value. A string or an integer needs nothing beside its graph.
+// A whole value. A string or an integer needs nothing besides its graph.
 fn whole(alloc: Global, bytes: &[u8]) -> Result<(Graph, &[u8]), Stop>
     ensures read { Gives (λ x. (x.0, x.1.now)) result (reading_of bytes.now) }
     ensures sealed { IfOk result (λ x. IsGraph x.0) }
@@ -102,7 +102,7 @@ fn built(alloc: Global, bytes: &[u8]) -> Result<(Graph, &[u8]), Stop>
     }
 }
 
-// Opens a container if there is one, and answers how many members are to come in the innermost.
+// Opens a container if there is one, and returns how many members the innermost still has.
 fn enter(outer: &mut Vec<u32>, members: u32, count: Option<u32>) -> Result<u32, AllocError>
     ensures { IfOk result (λ n. outer_stack count members (reverse outer.old.items) n
         (reverse outer.new.items)) }

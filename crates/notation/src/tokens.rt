@@ -1,5 +1,4 @@
-//! The parts of the notation that lie in no other: marks, numbers, and byte strings. Reading them
-//! takes no memory.
+//! The tokens of the notation: marks, numbers, and byte strings. Reading them allocates no memory.
 
 ghost use Rattle.std.specs.Prelude.{◌≡◌, ◌<◌, ◌≤◌, ◌^◌, length, IfOk};
 ghost use Rattle.notation.specs.Marks.{Reads, found, mark_at, ends_number, number_len, number_at};
@@ -9,7 +8,7 @@ ghost use Rattle.notation.specs.Marks.{sized_at, string_at, integer_at, count_at
 use crate::fault::{Fault, Reason};
 use php_graph::int_of_text;
 
-// A fault where so many bytes are left.
+// A fault at which these bytes are left.
 pub(crate) fn fault_at(reason: Reason, bytes: &[u8]) -> Fault
     ensures { result ≡ record { reason = reason; left = length bytes.now } }
 {
@@ -19,7 +18,7 @@ pub(crate) fn fault_at(reason: Reason, bytes: &[u8]) -> Fault
     }
 }
 
-// The bytes after the mark that is due.
+// The bytes after the expected mark.
 pub(crate) fn mark(due: u8, bytes: &[u8]) -> Result<&[u8], Fault>
     ensures read { Reads (λ rest. rest.now) result (mark_at due bytes.now) }
     ensures less { IfOk result (λ x. length x.now < length bytes.now) }
@@ -31,7 +30,7 @@ pub(crate) fn mark(due: u8, bytes: &[u8]) -> Result<&[u8], Fault>
     }
 }
 
-// How many digits and minus signs stand in front.
+// The number of digits and minus signs in front.
 fn run_len(bytes: &[u8]) -> usize
     ensures length { result ≡ number_len bytes.now }
     ensures within { result ≤ length bytes.now }
@@ -78,7 +77,7 @@ pub(crate) fn natural(bytes: &[u8]) -> Result<(u32, &[u8]), Fault>
     Ok((n as u32, rest))
 }
 
-// A truth value.
+// A boolean.
 pub(crate) fn truth(bytes: &[u8]) -> Result<(bool, &[u8]), Fault>
     ensures read { Reads (λ x. (x.0, x.1.now)) result (number_as as_truth bytes.now) }
     ensures less { IfOk result (λ x. length x.1.now ≤ length bytes.now) }
@@ -91,7 +90,7 @@ pub(crate) fn truth(bytes: &[u8]) -> Result<(bool, &[u8]), Fault>
     }
 }
 
-// So many bytes that a quote follows. The fault is at the number that says how many there are.
+// `len` bytes followed by a quote. A fault is at the number that is their length.
 fn quoted<'a>(len: u32, number: &[u8], bytes: &'a [u8]) -> Result<(&'a [u8], &'a [u8]), Fault>
     ensures read { Reads (λ x. (x.0.now, x.1.now)) result (quoted_at len number.now bytes.now) }
     ensures length { IfOk result (λ x. length x.0.now ≡ len) }
@@ -143,7 +142,7 @@ pub(crate) fn integer(bytes: &[u8]) -> Result<(i64, &[u8]), Fault>
     Ok((n, rest))
 }
 
-// How many members there are, and what opens them.
+// The number of members, and what opens them.
 #[tactic(auto, unfolding(crate::specs::Marks::count_at))]
 pub(crate) fn count(bytes: &[u8]) -> Result<(u32, &[u8]), Fault>
     ensures read { Reads (λ x. (x.0, x.1.now)) result (count_at bytes.now) }

@@ -12,9 +12,8 @@ use php_graph::{Child, Graph};
 use std::alloc::AllocError;
 
 /// Appends the value's text, with `base` added to each number in `R:` and `r:`. With the base 0
-/// this is the text of the value by itself; where the value is a member of an array that is written
-/// piece by piece, the base is the count of the places before it. Without memory `out` stays as it
-/// was.
+/// this is the text of the value by itself; if the value is a member of an array that is written
+/// piece by piece, the base is the number of places before it. Without memory `out` is unchanged.
 pub fn write_value(g: &Graph, base: u64, out: &mut ByteOut) -> Result<(), AllocError>
     requires { base < 2 ^ 56 }
     ensures ok { OnOk result (out.new ≡ out.old ++ text_from base g.now) }
