@@ -1,4 +1,4 @@
--- What is asked with lent keys and values.
+-- Requests with borrowed keys and values.
 use Rattle.std.specs.Prelude.{Option, option_map}
 use Rattle.std.specs.Borrow.{Bor}
 use Rattle.apcu_model.specs.declared.ask.Ask.{Ask}
@@ -7,11 +7,11 @@ use Rattle.apcu_model.specs.declared.searching.Pattern.{Pattern}
 use Rattle.apcu_model.specs.declared.request.Request.{Request}
 use Rattle.apcu_model.specs.declared.request.Request.TheVariants as request
 
--- the pattern that is lent, if there is one
+-- the pattern that is borrowed, if there is one
 abbrev pub pattern_lent : Option (Bor Pattern) → Option Pattern
 pattern_lent wanted = option_map (λ (p : Bor Pattern). p.now) wanted
 
--- the request that an ask stands for
+-- the request that a borrowed one represents
 abbrev pub asked : Ask → Request
 asked (ask.Store key value ttl exclusive) = request.Store key.now value.now ttl exclusive
 asked (ask.Fetch key) = request.Fetch key.now

@@ -1,4 +1,4 @@
--- The rows of a cache and its counts.
+-- The rows of a cache and its counters.
 use Rattle.std.specs.Prelude.{ℕ, ◌+◌, ◌-◌, ◌^◌, min, Bool, List, [], ◌++◌, length, map, Option}
 use Rattle.std.specs.Str.{bytes_eq}
 use Rattle.php_graph.specs.declared.kind.Kind.{Kind}
@@ -12,7 +12,7 @@ use Rattle.apcu_model.specs.declared.row_info.Counts.{Counts}
 pub record Row : Type 0 where
   pub key : List ℕ
   pub graph : List Kind
-  -- how long it lives from its creation on; 0 is for ever
+  -- how long it lives after its creation; 0 is no limit
   pub ttl : ℕ
   -- created, changed, used, and for a removed row dropped
   pub ctime : ℕ
@@ -24,11 +24,11 @@ pub record Row : Type 0 where
   -- its block in the segment
   pub place : ℕ
   pub size : ℕ
-  -- rows are numbered in the order in which they come
+  -- rows are numbered in the order in which they are stored
   pub number : ℕ
 
--- A cache: its rows in order, no two with one key; the rows that were dropped while somebody copied
--- them, whose blocks are still taken; the next row's number; and what it counts.
+-- A cache: its rows in order, no two with the same key; the rows that were dropped while a worker
+-- copied them, whose blocks are still taken; the next row's number; and its counters.
 pub record Cache : Type 0 where
   pub conf : Conf
   pub rows : List Row
@@ -51,7 +51,7 @@ empty_cache conf = record {
   expunges = 0;
 }
 
--- what it counts, and its rows
+-- its counters, and its rows
 abbrev pub counts_of : Cache → Counts
 counts_of c = record {
   hits = c.hits;
@@ -61,7 +61,7 @@ counts_of c = record {
   entries = length c.rows;
 }
 
--- one more, but a count stays at the last number of 64 bits
+-- one more, but a counter stops at the maximum of 64 bits
 abbrev pub risen : ℕ → ℕ
 risen n = min (n + 1) (2 ^ 64 - 1)
 
@@ -72,8 +72,8 @@ has_key key row = bytes_eq row.key key
 abbrev pub extent_of : Row → Extent
 extent_of row = record { place = row.place; size = row.size }
 
--- the least place where a block of n words fits in one segment beside the blocks of all rows, also
--- of removed ones
+-- the lowest place where a block of n words fits in one segment outside the blocks of all rows,
+-- also of removed ones
 abbrev pub gap_of : Cache → ℕ → Option ℕ
 gap_of c n =
     first_fit c.conf.slots c.conf.words (piece_of c.conf) n (map extent_of (c.rows ++ c.removed))

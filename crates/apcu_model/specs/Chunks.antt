@@ -1,4 +1,4 @@
--- What an iterator gives, step by step, and what its relatives answer.
+-- What an iterator returns, step by step, and the replies of the related calls.
 use Rattle.std.specs.Prelude.{ℕ, ◌-◌, ◌^◌, ◌==◌, ◌&&◌, not, nat_le, min, Bool}
 use Rattle.std.specs.Prelude.{if◌then◌else◌, List, length, map, filter, sum_by, Option, Some, None}
 use Rattle.std.specs.Prelude.{unwrap_or, find}
@@ -19,11 +19,11 @@ use Rattle.apcu_model.specs.Infos.{word_bytes}
 use Rattle.apcu_model.specs.PatternMatches.{key_matches}
 use Rattle.apcu_model.specs.SlotOrder.{is_in_slot}
 
--- the value is asked for
+-- the value is selected
 abbrev pub tells_value : Fields → Bool
 tells_value fields = bit_at fields.0 1 == 1
 
--- what is given of a row
+-- the item of a row
 abbrev pub item_of : Fields → Row → ItemRow
 item_of fields row = record {
   key = row.key;
@@ -39,11 +39,11 @@ item_of fields row = record {
 
 -- ---- the active rows
 
--- the row's own time is not over, and its key matches
+-- the row has not expired, and its key matches
 abbrev pub is_item : Option Pattern → ℕ → Row → Bool
 is_item wanted t row = not (is_hard_expired t row) && key_matches wanted row.key
 
--- those of a slot, by their place in the list
+-- those of a slot, in the order of the list
 abbrev pub slot_items : Option Pattern → ℕ → Cache → ℕ → List Row
 slot_items wanted t c slot = filter (is_item wanted t) (filter (is_in_slot c.conf slot) c.rows)
 
@@ -52,8 +52,8 @@ abbrev pub items_between : Option Pattern → ℕ → Cache → ℕ → ℕ → 
 items_between wanted t c from upto =
     flat_map (slot_items wanted t c) (range_with_len from (upto - from))
 
--- Where a step from a slot on ends, of at least so many items: as few slots as hold that many, or
--- all slots that are left. It is the first slot behind them.
+-- The end of a step from a slot on, of at least this many items: as few slots as hold that many, or
+-- all slots that are left. It is the first slot after them.
 abbrev pub chunk_end : Option Pattern → ℕ → Cache → ℕ → ℕ → ℕ
 chunk_end wanted t c from size =
     unwrap_or
@@ -72,7 +72,7 @@ chunk_rows wanted t c from size =
 abbrev pub removed_items : Option Pattern → Cache → List Row
 removed_items wanted c = filter (λ (row : Row). key_matches wanted row.key) c.removed
 
--- ---- the answers
+-- ---- the replies
 
 -- One step of an iterator. All removed rows are one step.
 abbrev pub chunk_of : Option Pattern → ℕ → ℕ → RowList → Fields → ℕ → Cache → Chunk
@@ -89,13 +89,12 @@ chunk_of wanted from size Deleted fields t c = record {
 abbrev pub chunk_dropped : List ℕ → Option Pattern → ℕ → ℕ → ℕ → Cache → Cache
 chunk_dropped held wanted from size t c = dropped held t (chunk_rows wanted t c from size) c
 
--- all rows that an iterator goes over
+-- all rows of an iterator
 abbrev pub all_items : Option Pattern → RowList → ℕ → Cache → List Row
 all_items wanted Active t c = filter (is_item wanted t) c.rows
 all_items wanted Deleted t c = removed_items wanted c
 
--- how many they are, how often they were fetched together, as far as a count of 64 bits goes, and
--- the bytes of their blocks
+-- their number, the sum of their hits, as far as 64 bits can hold it, and the bytes of their blocks
 abbrev pub totals_of : List Row → Reply
 totals_of rows =
     replies.Totals (length rows) (min (sum_by (λ (row : Row). row.hits) rows) (2 ^ 64 - 1))

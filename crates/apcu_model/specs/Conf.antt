@@ -10,8 +10,8 @@ use Rattle.apcu_model.specs.declared.conf.TheConstants.{MOST_USABLE_WORDS}
 unfoldable pub piece_of : Conf → ℕ
 piece_of conf = conf.words / conf.segments
 
--- the words of the largest block that the empty segments take; it is less than a whole segment only
--- where the one segment holds the slots too
+-- the words of the largest block that fits into the empty segments; it is less than a whole segment
+-- only if the one segment holds the slots too
 abbrev pub most_of : Conf → ℕ
 most_of conf = if conf.segments == 1 then conf.words - conf.slots else piece_of conf
 
@@ -27,8 +27,8 @@ pub record IsGood (conf : Conf) : Type 0 where
   pub slots_most : conf.slots ≤ MOST_SLOTS
   pub room : conf.slots + 16 ≤ piece_of conf
 
--- A shape for which an engine can make a cache. It may have more words than a good one, and all
--- else is asked of both.
+-- A shape for which an engine can make a cache. It may have more words than a good one; all other
+-- requirements are the same.
 pub record IsUsable (conf : Conf) : Type 0 where
   pub segments_least : 1 ≤ conf.segments
   pub segments_most : conf.segments ≤ MOST_SEGMENTS

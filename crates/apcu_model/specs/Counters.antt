@@ -1,5 +1,5 @@
--- Integers under keys: those that are counted with, and those that are set where they are as
--- expected.
+-- Integers under keys: those that are counted, and those that are replaced if they are the expected
+-- one.
 use Rattle.std.specs.Prelude.{ℕ, ℤ, Bool, false, if◌then◌else◌, List, [], ◌∷◌, map, Option, Some}
 use Rattle.std.specs.Prelude.{None}
 use Rattle.std.specs.Int.{w64, int_wrapping_add}
@@ -21,27 +21,27 @@ abbrev pub integer_in : List Kind → Option ℤ
 integer_in [] = None
 integer_in (kind ∷ places) = integer_kind kind
 
--- the sum in 64 bits with a sign: past the last number it goes on from the first
+-- the signed 64-bit sum: it wraps after the maximum
 abbrev pub sum_of : ℤ → ℤ → ℤ
 sum_of n step = int_wrapping_add w64 n step
 
--- the row holds this integer, set at the moment t; that is no use of it, and its ttl stays
+-- the row holds this integer, set at the moment t; that is no use of it, and its ttl is unchanged
 abbrev pub with_integer : ℤ → ℕ → Row → Row
 with_integer n t row = record row { graph = kinds.Int n ∷ []; mtime = t }
 
--- the row of the key holds it, and each other stays
+-- the row of the key holds it, and each other is unchanged
 abbrev pub with_integer_at : List ℕ → ℤ → ℕ → Row → Row
 with_integer_at key n t row = if has_key key row then with_integer n t row else row
 
 abbrev pub integer_set : List ℕ → ℤ → ℕ → Cache → Cache
 integer_set key n t c = record c { rows = map {A = Row} {B = Row} (with_integer_at key n t) c.rows }
 
--- what comes of counting: the number that it gives, if any, and the cache after it
+-- the result of counting: the counter's new value, if any, and the cache after it
 pub record Count : Type 0 where
   pub number : Option ℤ
   pub cache : Cache
 
--- a value that is there: an integer counts on by the step, any other stays and gives no number
+-- an existing value: the step is added to an integer, any other is unchanged and gives no number
 abbrev pub counted_on : List ℕ → ℤ → ℕ → Cache → Option ℤ → Count
 counted_on key step t c (Some n) = record {
   number = Some (sum_of n step);
@@ -49,14 +49,14 @@ counted_on key step t c (Some n) = record {
 }
 counted_on key step t c None = record { number = None; cache = c }
 
--- the number, where it was stored
+-- the number, if it was stored
 abbrev pub number_if : ℤ → StoreAnswer → Option ℤ
 number_if n answers.Stored = Some n
 number_if n answers.TooLarge = None
 number_if n answers.Exists = None
 number_if n answers.NoRoom = None
 
--- a counter that is new: from 0 it counts the step, if it can be stored
+-- a new counter: from 0 it counts the step, if it can be stored
 abbrev pub begun : ℤ → Insertion → Count
 begun step insertion = record {
   number = number_if step insertion.answer;
@@ -69,7 +69,7 @@ counted_at held key step ttl t c None =
     begun step (inserted held key (kinds.Int step ∷ []) ttl false t c)
 
 -- The counter under a key counts by a step: the row that a look-up finds, which keeps its ttl, or
--- else a new one with this ttl. No hit and no miss is counted.
+-- otherwise a new one with this ttl. No hit and no miss is counted.
 abbrev pub counted : List ℕ → List ℕ → ℤ → ℕ → ℕ → Cache → Count
 counted held key step ttl t c = counted_at held key step ttl t c (live_row key t c)
 
@@ -83,7 +83,7 @@ abbrev pub is_expected : ℤ → Option Row → Bool
 is_expected expect (Some row) = is_integer expect (integer_in row.graph)
 is_expected expect None = false
 
--- The integer under a key is set where it is the one that is expected. Nothing is ever inserted.
+-- The integer under a key is set if it is the expected one. Nothing is ever inserted.
 abbrev pub swapped : List ℕ → ℤ → ℤ → ℕ → Cache → Cache
 swapped key expect set t c =
     if is_expected expect (live_row key t c) then integer_set key set t c else c

@@ -1,4 +1,4 @@
--- Rows that are held, dated, listed by slot and place, or gone: facts that proofs of the crates
+-- Rows that are held, dated, listed by slot and place, or dropped: facts that proofs of the crates
 -- above cite.
 use Rattle.std.proofs.Common.{◌≡◌, ◌≢◌, ℕ, zero, suc, ◌+◌, ◌<◌, ◌≤◌, ◌%◌, ◌==◌, not, true}
 use Rattle.std.proofs.Common.{inl, inr, List, ◌∷◌, [], map, filter, refl, sym, ap, ◌∙◌}
@@ -18,7 +18,7 @@ use Rattle.apcu_model.specs.Change.{is_among, is_held, leaving, left_of}
 use Rattle.apcu_model.specs.Rows.{are_apart}
 use Rattle.apcu_model.specs.SlotOrder.{is_in_slot, in_slot_order, slot_of}
 
--- a row is held exactly where its place is one of those that are
+-- a row is held exactly if its place is one of those that are
 pub held_is : (held : List ℕ) (row : Row) → is_held held row ≡ has row.place held
 held_is held row = any_has row.place held
 
@@ -70,7 +70,7 @@ order_there conf rows row good c =
     flat_from (λ slot. filter (is_in_slot conf slot) rows) conf.slots 0 k row (omega arith)
     (omega (arith, low)) (Contains-kept (is_in_slot conf k) rows row c (eq-eqb k k refl))
 
--- the rows that go, in their order
+-- the rows that are dropped, in their order
 pub leaving_from : (conf : Conf) (rows : List Row) (row : Row)
     → Contains (leaving conf rows) row → Contains rows row
 unfolding leaving
@@ -81,12 +81,12 @@ pub leaving_there : (conf : Conf) (rows : List Row) (row : Row) → 2 ≤ conf.s
 unfolding leaving
 leaving_there = order_there
 
--- where none go all are left
+-- if none is dropped all are left
 pub left_all : (rows : List Row) → left_of [] rows ≡ rows
 unfolding is_among
 left_all rows = filter_all (λ (row : Row). true) rows (λ row c. refl)
 
--- one that is gone is among those that are
+-- a dropped one is among the dropped ones
 pub among_there : (gone : List Row) (row : Row) → Contains gone row → is_among gone row ≡ true
 unfolding is_among
 among_there gone row c =
@@ -100,7 +100,7 @@ among_from gone row h =
     let r = any_there (has_key row.key) gone h in
     (r.0, r.1, (bytes_eq-Decides r.0.key row.key).0 r.2)
 
--- of rows that are apart two with one key are one
+-- of rows with different keys two with one key are the same
 pub one_by_key : (rows : List Row) (p q : Row) → are_apart rows ≡ true → Contains rows p
     → Contains rows q → p.key ≡ q.key → p ≡ q
 one_by_key [] p q h cp cq e = absurd (none_in_nil p cp)

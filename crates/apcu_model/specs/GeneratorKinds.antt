@@ -1,4 +1,4 @@
--- The entries of a generator and the value inside, by what it is outermost.
+-- The entries of a generator and the value inside, by its outermost part.
 use Rattle.std.specs.Prelude.{[], ◌∷◌}
 use Rattle.apcu_model.specs.declared.generator.GenKind.{GenKind}
 use Rattle.apcu_model.specs.declared.generator.GenKind.TheVariants.{Value, Entry}

@@ -1,6 +1,7 @@
--- What comes of a generator: its keys are looked up from outside in, as far as one has a live row.
--- The value is that row's, or else the literal inside; and it is stored under the keys that were
--- missed, inner first. `held` is the list of the places of blocks that are held, t the time.
+-- The result of a generator: its keys are looked up from the outermost inwards, until one has a
+-- live row. The value is that row's, or else the innermost literal; and it is stored under the keys
+-- that were missed, inner first. `held` is the list of the places of blocks that are held, t the
+-- time.
 use Rattle.std.specs.Prelude.{ℕ, true, if◌then◌else◌, List, [], ◌∷◌, Option, Some, None}
 use Rattle.std.specs.Prelude.{is_some}
 use Rattle.php_graph.specs.declared.kind.Kind.{Kind}
@@ -11,7 +12,7 @@ use Rattle.apcu_model.specs.Expiry.{live_row}
 use Rattle.apcu_model.specs.Lookups.{looked_up}
 use Rattle.apcu_model.specs.Change.{Insertion, inserted}
 
--- the value of the row, or the other where there is none
+-- the value of the row, or the other if there is none
 abbrev pub value_or : Option Row → List Kind → List Kind
 value_or (Some row) other = row.graph
 value_or None other = other
@@ -22,18 +23,18 @@ value_under [] literal t c = literal
 value_under (level ∷ levels) literal t c =
     value_or (live_row level.key t c) (value_under levels literal t c)
 
--- the value that a generator gives
+-- the value of a generator
 abbrev pub given_by : Generator → ℕ → Cache → List Kind
 given_by g t c = value_under g.levels g.literal t c
 
--- the keys before the first that has a live row: all of them where none has one
+-- the keys before the first that has a live row: all of them if none has one
 abbrev pub missed_levels : List EntryLevel → ℕ → Cache → List EntryLevel
 missed_levels [] t c = []
 missed_levels (level ∷ levels) t c =
     if is_some (live_row level.key t c) then [] else level ∷ missed_levels levels t c
 
--- The keys are looked up in turn, as far as one has a live row: each that was missed counts a miss,
--- the one that was found a hit, and its row is used.
+-- The keys are looked up in turn, until one has a live row: each that was missed counts a miss, the
+-- one that was found a hit, and its row is used.
 abbrev pub looked_for : List EntryLevel → ℕ → Cache → Cache
 looked_for [] t c = c
 looked_for (level ∷ levels) t c =
@@ -41,8 +42,8 @@ looked_for (level ∷ levels) t c =
     if is_some row then looked_up level.key t row c
     else looked_for levels t (looked_up level.key t None c)
 
--- what comes of storing under several keys: the answer for the outermost, if there is any, and the
--- cache after it
+-- the result of storing under several keys: that of the outermost, if there is any, and the cache
+-- after it
 pub record Filling : Type 0 where
   pub outermost : Option StoreAnswer
   pub cache : Cache
@@ -61,8 +62,8 @@ filled held value t (level ∷ levels) c =
     let inner = (filled held value t levels c).cache in
     filling_of (inserted held level.key value level.ttl true t inner)
 
--- All look-ups are counted before the first insertion, so an expunge forgets them. The outermost
--- answer is none where nothing was missed.
+-- All look-ups are counted before the first insertion, so an expunge sets them to 0. The outermost
+-- result is none if nothing was missed.
 abbrev pub entered : List ℕ → Generator → ℕ → Cache → Filling
 entered held g t c =
     let missed = missed_levels g.levels t c in

@@ -1,4 +1,4 @@
--- Events, and who still copies a value after them.
+-- Events, and which workers still copy a value after them.
 use Rattle.std.specs.Prelude.{◌≡◌, ℕ, ◌^◌, ◌==◌, ◌&&◌, ◌||◌, not, nat_lt, if◌then◌else◌, Bool, true}
 use Rattle.std.specs.Prelude.{false, List, [], ◌∷◌, ◌++◌, length, map, filter, Option, Some, None}
 use Rattle.std.specs.Prelude.{is_some, nat_le}
@@ -45,8 +45,8 @@ held_places m mask =
     map {A = Row} (λ row. row.place)
     (filter (λ row. is_copied mask m row.number) (m.cache.rows ++ m.cache.removed))
 
--- Of `workers` workers, a mask is legal for an event of one where each of its workers is another
--- one that has a window.
+-- Of `workers` workers, a mask is legal for an event of one if each of its workers is another one
+-- that has a window.
 abbrev pub is_legal_mask : ℕ → ℕ → Stage → ℕ → Bool
 is_legal_mask workers worker m mask =
     nat_lt mask (2 ^ 64)
@@ -55,7 +55,7 @@ is_legal_mask workers worker m mask =
     || (not (v == worker) && nat_lt v workers && is_some (window_of m v)))
     (range_with_len 0 64)
 
--- null, a truth value and an integer are answered under the lock, and never copied outside it
+-- null, a boolean and an integer are returned under the lock, and never copied outside it
 abbrev pub is_scalar_kind : Kind → Bool
 is_scalar_kind kinds.Null = true
 is_scalar_kind (kinds.Bool b) = true
@@ -95,13 +95,13 @@ after_events m (e ∷ events) = after_events (after_event m e) events
 abbrev pub stage_of : Conf → List Event → Stage
 stage_of conf history = after_events (start_of conf) history
 
--- each event's mask is legal where the event stands
+-- each event's mask is legal at its place
 abbrev pub all_legal : ℕ → Stage → List Event → Bool
 all_legal workers m [] = true
 all_legal workers m (e ∷ events) =
     is_legal_mask workers e.worker m e.mask && all_legal workers (after_event m e) events
 
--- an entry has no more levels than may be: so one event makes at most eight insertions
+-- an entry has no more levels than allowed: so one event makes at most eight insertions
 abbrev pub is_shallow : Request → Bool
 is_shallow (Entry g) = nat_le (length g.levels) most_levels
 is_shallow _ = true
@@ -118,7 +118,7 @@ abbrev pub marks_of : List Event → List Mark
 marks_of events = map mark_of events
 
 -- Rows and removed rows of one number have one place, each worker has one window, and a row of
--- which a window is holds no value that is answered under the lock.
+-- which a window is holds no value that is returned under the lock.
 pub record IsNumbered (m : Stage) : Type 0 where
   pub one : (w : ℕ × ℕ) → Contains m.windows w → window_of m w.0 ≡ Some w.1
   pub numbers : (p q : Row) → Contains (m.cache.rows ++ m.cache.removed) p

@@ -16,25 +16,26 @@ use Rattle.php_graph.specs.PlaceOffsets.{kinds_at, offsets_at, offsets_from}
 use Rattle.php_graph.specs.Size.{image_length}
 use Rattle.apcu_model.specs.Infos.{Told, number_kind}
 
--- what is known of places so far: where the image has each, how long it is, and that there are few
+-- what is known of places so far: the offset of each, the length of the image, and that there are
+-- few
 pub record IsLaidOut (first : Kind) (others : List Place) (words : ℕ) : Type 0 where
   pub offsets : 0 ∷ offsets_at others ≡ offsets_from 0 (first ∷ kinds_at others)
   pub words_are : words ≡ image_length (first ∷ kinds_at others)
   pub few : length others + 1 ≤ most_values
   pub small : words ≤ 2 ^ 34 * (length others + 1)
 
--- the places of numbers, of which an image has the first one at this word
+-- the places of numbers, the first of which has this offset
 abbrev pub number_places : ℕ → List ℕ → List Place
 number_places at [] = []
 number_places at (n ∷ ns) =
     record { kind = number_kind n; at = at } ∷ number_places (at + 2) ns
 
--- members under these names, whose values have so many places each, from a place on
+-- members under these names, whose values have this many places each, from a place on
 abbrev pub sized_members : ℕ → List (Bor (List ℕ) × ℕ) → List (Key × Child)
 sized_members place [] = []
 sized_members place (f ∷ fs) = (keys.Str f.0.now, Own place) ∷ sized_members (place + f.1) fs
 
--- the words of these names in an image, and of what is beside each
+-- the words of these names in an image, and of what belongs to each
 abbrev pub name_cells : List (Bor (List ℕ) × ℕ) → ℕ
 name_cells fs = sum_by (λ f. 2 + words_in (length f.0.now)) fs
 
@@ -51,13 +52,13 @@ row_keys =
     ∷ keys.Str (codes "deletion_time") ∷ keys.Str (codes "access_time")
     ∷ keys.Str (codes "mem_size") ∷ []
 
--- so many members under the keys from n on, whose values have `step` places each, from a place on
+-- this many members under the keys from n on, whose values have `step` places each, from a place on
 abbrev pub stepped_members : ℕ → ℕ → ℕ → ℕ → List (Key × Child)
 stepped_members place n step zero = []
 stepped_members place n step (suc count) =
     (keys.Int (pos n), Own place) ∷ stepped_members (place + step) (n + 1) step count
 
--- the place after so many values
+-- the place after this many values
 abbrev pub stepped_end : ℕ → ℕ → ℕ → ℕ
 stepped_end place step zero = place
 stepped_end place step (suc count) = stepped_end (place + step) step count

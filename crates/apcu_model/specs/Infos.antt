@@ -1,4 +1,4 @@
--- What the information calls answer: arrays of named fields, some of them lists of such arrays.
+-- The replies of the information calls: arrays of named fields, some of them lists of such arrays.
 use Rattle.std.specs.List.{range_with_len}
 use Rattle.std.specs.Prelude.{◌/◌, ◌%◌, ◌==◌, filter}
 use Rattle.std.specs.Prelude.{ℕ, ◌+◌, ◌-◌, ◌*◌, ◌^◌, min, pos, Bool, if◌then◌else◌, List, [], ◌∷◌}
@@ -20,13 +20,13 @@ use Rattle.apcu_model.specs.Cache.{Row, Cache, counts_of, extent_of}
 use Rattle.apcu_model.specs.Expiry.{live_row}
 use Rattle.apcu_model.specs.SlotOrder.{in_slot_order}
 
--- ---- values that are told: each is its places, by the number that its first place gets
+-- ---- values in these replies: each is its places, by the number that its first place gets
 
 -- The places of a value, by the number of the first one.
 abbrev pub Told : Type 0
 Told = ℕ → List Kind
 
--- a number; from 2^63 on it is told as the last integer of 64 bits
+-- a number; from 2^63 on it becomes the maximum of 64 bits
 abbrev pub number_kind : ℕ → Kind
 number_kind n = kinds.Int (pos (min n (2 ^ 63 - 1)))
 
@@ -65,13 +65,13 @@ info_numbered n (value ∷ values) = (keys.Int (pos n), value) ∷ info_numbered
 abbrev pub info_list : List Told → Told
 info_list values = info_array (info_numbered 0 values)
 
--- the bytes of so many words
+-- the bytes of this many words
 abbrev pub word_bytes : ℕ → ℕ
 word_bytes words = 8 * words
 
 -- ---- a row
 
--- what is told of a row beside its key and its value
+-- information about a row besides its key and its value
 abbrev pub info_of_row : Row → RowInfo
 info_of_row row = record {
   ttl = row.ttl;
@@ -87,7 +87,7 @@ info_of_row row = record {
 abbrev pub listed_of : Row → ListedRow
 listed_of row = record { key = row.key; info = info_of_row row }
 
--- what apcu_key_info tells of a row
+-- what apcu_key_info returns about a row
 abbrev pub note_fields : RowInfo → List (Key × Told)
 note_fields row =
     info_field (codes "hits") (info_number row.hits)
@@ -101,7 +101,7 @@ note_fields row =
 abbrev pub info_of_key : RowInfo → Told
 info_of_key row = info_array (note_fields row)
 
--- what the lists of apcu_cache_info tell of a row
+-- what the lists of apcu_cache_info have about a row
 abbrev pub row_fields : ListedRow → List (Key × Told)
 row_fields row =
     info_field (codes "info") (info_string row.key)
@@ -119,7 +119,7 @@ info_row row = info_array (row_fields row)
 
 -- ---- a cache
 
--- what apcu_cache_info tells always, where the blocks of the rows have so many words
+-- what apcu_cache_info always returns, if the blocks of the rows have this many words
 abbrev pub info_counts : Conf → Counts → ℕ → List (Key × Told)
 info_counts conf counts words =
     info_field (codes "num_slots") (info_number conf.slots)
@@ -132,7 +132,7 @@ info_counts conf counts words =
     ∷ info_field (codes "mem_size") (info_number (word_bytes words))
     ∷ []
 
--- and where it is not limited, the rows and the removed rows
+-- and if it is not limited, the rows and the removed rows
 abbrev pub info_rows : List ListedRow → List ListedRow → List (Key × Told)
 info_rows rows removed =
     info_field (codes "cache_list") (info_list (map info_row rows))
@@ -145,8 +145,8 @@ row_words c = sum_by (λ (row : Row). row.size) c.rows
 
 -- ---- a segment
 
--- what apcu_sma_info tells always: how many segments there are, the words of each, and how many of
--- all their words are free
+-- what apcu_sma_info always returns: the number of segments, the words of each, and how many of all
+-- their words are free
 abbrev pub info_words : Conf → ℕ → List (Key × Told)
 info_words conf free =
     info_field (codes "num_seg") (info_number conf.segments)
@@ -163,7 +163,7 @@ gap_fields gap =
 abbrev pub info_gap : Extent → Told
 info_gap gap = info_array (gap_fields gap)
 
--- the gaps of the k-th segment of so many words, by their places in it
+-- the gaps of the k-th segment of this many words, by their places in it
 abbrev pub gaps_in : ℕ → List Extent → ℕ → List Extent
 gaps_in piece gaps k =
     map (λ (gap : Extent). record { place = gap.place % piece; size = gap.size })
@@ -172,7 +172,7 @@ gaps_in piece gaps k =
 abbrev pub info_segment : ℕ → List Extent → ℕ → Told
 info_segment piece gaps k = info_list (map info_gap (gaps_in piece gaps k))
 
--- and where it is not limited, the gaps of each segment
+-- and if it is not limited, the gaps of each segment
 abbrev pub info_gaps : Conf → List Extent → List (Key × Told)
 info_gaps conf gaps =
     info_field (codes "block_lists")
@@ -186,14 +186,14 @@ gaps_of c =
 abbrev pub gap_words_of : Cache → ℕ
 gap_words_of c = sum_by (λ (gap : Extent). gap.size) (gaps_of c)
 
--- ---- the answers
+-- ---- the replies
 
 -- of the row that a look-up of the key finds, if it finds one
 abbrev pub key_info_of : List ℕ → ℕ → Cache → Option (List Kind)
 key_info_of key t c = option_map (λ (row : Row). info_of_key (info_of_row row) 1) (live_row key t c)
 
--- Of the cache: its shape, what it counts, and its rows, those whose time is over too. Unless
--- limited, the rows are listed by slot and place, and the removed rows as they were dropped.
+-- Of the cache: its shape, its counters, and its rows, expired ones included. Unless limited, the
+-- rows are listed by slot and place, and the removed rows as they were dropped.
 abbrev pub cache_info_of : Bool → Cache → List Kind
 cache_info_of limited c =
     let counts = info_counts c.conf (counts_of c) (row_words c) in

@@ -4,5 +4,5 @@ use Rattle.apcu_model.specs.declared.journal.Mark.{Mark}
 
 pub record Marks : Type 0 where
   pub marks : List Mark
-  -- how many more it can take without memory
+  -- how many more it can take without allocating memory
   pub room : ℕ

@@ -1,4 +1,4 @@
--- The laws of this crate, as records that callers hand on.
+-- The laws of this crate, as records that callers pass on.
 use Rattle.apcu_model.specs.Cache.{Cache, Row}
 use Rattle.apcu_model.specs.Change.{AreAlike, ForgetsCounts, KeepsCounts, is_expunged, with_room}
 use Rattle.apcu_model.specs.Change.{with_row}
@@ -16,7 +16,7 @@ use Rattle.apcu_model.specs.declared.request.Request.{Request}
 use Rattle.std.specs.Prelude.{Bool, List, [], false, filter, length, map, true, ℕ, ◌&&◌, ◌+◌}
 use Rattle.std.specs.Prelude.{◌++◌, ◌∷◌, ◌≡◌, ◌≤◌}
 
--- what leaves rows apart, of which no two have one key
+-- what keeps the keys of rows different
 pub record RowsStayApart : Type 0 where
   pub picked : (test : Row → Bool) (rows : List Row) → are_apart rows ≡ true
       → are_apart (filter test rows) ≡ true
@@ -25,7 +25,7 @@ pub record RowsStayApart : Type 0 where
   pub more : (row : Row) (rows : List Row) → are_apart rows ≡ true
       → are_apart (with_row row rows) ≡ true
 
--- what making room does to the counts
+-- what making room does to the counters
 pub record CountLaws : Type 0 where
   pub kept : (held : List ℕ) (n t : ℕ) (c : Cache) → is_expunged held n t c ≡ false
       → KeepsCounts c (with_room held n t c)
@@ -43,7 +43,7 @@ pub record HeldAlike : Type 0 where
   pub entered : (held other : List ℕ) → AreAlike held other → (g : Generator) (t : ℕ) (c : Cache)
       → entered held g t c ≡ entered other g t c
 
--- what comes of one event more
+-- what follows from one more event
 pub record OneEventMore : Type 0 where
   pub after : (m : Stage) (events : List Event) (e : Event) → after_events m (events ++ e ∷ [])
       ≡ after_event (after_events m events) e
@@ -56,8 +56,8 @@ pub record OneEventMore : Type 0 where
   pub marks : (events : List Event) (e : Event) → marks_of (events ++ e ∷ [])
       ≡ marks_of events ++ mark_of e ∷ []
 
--- The cache keeps its shape, and rows of which no two have one key stay so: in one event, and in
--- any history.
+-- The cache keeps its shape, and rows of which no two have the same key stay so: in one event, and
+-- in any history.
 pub record EventsKeep : Type 0 where
   pub conf : (held : List ℕ) (t : ℕ) (r : Request) (c : Cache)
       → (cache_after held t r c).conf ≡ c.conf
@@ -67,18 +67,18 @@ pub record EventsKeep : Type 0 where
   pub apart_in : (conf : Conf) (history : List Event)
       → are_apart (stage_of conf history).cache.rows ≡ true
 
--- What row numbers tell in a history, and after more of its events, where all of them are shallow
--- and at most `MOST_EVENTS`.
+-- What row numbers say in a history, and after more of its events, if all of them are shallow and
+-- at most `MOST_EVENTS`.
 pub record RowsKeepNumbers : Type 0 where
   pub below : (conf : Conf) (history : List Event) → length history ≤ MOST_EVENTS
       → are_shallow history ≡ true → AreBelow (stage_of conf history).cache
-  -- a number that is gone never comes back
+  -- a number is never used again
   pub later : (conf : Conf) (before between : List Event)
       → length before + length between ≤ MOST_EVENTS
       → are_shallow before ≡ true → are_shallow between ≡ true
       → KeepsNumbers (stage_of conf before).cache
       (after_events (stage_of conf before) between).cache
-  -- a number stands for one row, at both moments
+  -- a number identifies one row, at both moments
   pub one : (conf : Conf) (before between : List Event)
       → length before + length between ≤ MOST_EVENTS
       → are_shallow before ≡ true → are_shallow between ≡ true

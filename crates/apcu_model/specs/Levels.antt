@@ -1,4 +1,4 @@
--- What a generator is seen as.
+-- What contracts see of a generator.
 use Rattle.std.specs.Prelude.{ℕ, List}
 use Rattle.php_graph.specs.declared.kind.Kind.{Kind}
 
@@ -12,6 +12,6 @@ pub record Generator : Type 0 where
   pub levels : List EntryLevel
   pub literal : List Kind
 
--- how many entries may lie in one another, the outermost among them
+-- how many entries may be nested, the outermost included
 abbrev pub most_levels : ℕ
 most_levels = 8

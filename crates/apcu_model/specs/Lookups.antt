@@ -1,4 +1,4 @@
--- What a look-up that counts leaves.
+-- The cache after a look-up that counts.
 use Rattle.std.specs.Prelude.{ℕ, if◌then◌else◌, List, map, Option, Some, None}
 use Rattle.apcu_model.specs.Cache.{Row, Cache, risen, has_key}
 

@@ -4,7 +4,7 @@ use Rattle.apcu_model.specs.Cache.{Row, Cache}
 use Rattle.apcu_model.specs.History.{is_scalar}
 
 -- The row is still that one, whatever its value is now: its number, key, place and size are the
--- same, and so is its time to live. A value that is null, a truth value or an integer stays one of
+-- same, and so is its time to live. A value that is null, a boolean or an integer stays one of
 -- these.
 pub record IsStill (was row : Row) : Type 0 where
   pub number : was.number ≡ row.number
@@ -23,8 +23,8 @@ IsIn c row = Contains (c.rows ++ c.removed) row
 abbrev pub AreBelow : Cache → Type 0
 AreBelow c = (row : Row) → IsIn c row → row.number < c.next_number
 
--- A number that is gone never comes back: each row or removed row of the new cache that has a
--- number of the old one's was there, and is still that one.
+-- A number is never used again: each row or removed row of the new cache that has a number of the
+-- old one's existed there, and is still that one.
 pub record KeepsNumbers (old new : Cache) : Type 0 where
   pub next : old.next_number ≤ new.next_number
   pub rows : (row : Row) → IsIn new row → row.number < old.next_number

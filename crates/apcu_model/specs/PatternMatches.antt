@@ -7,14 +7,14 @@ use Rattle.regex.specs.Patterns.{Config, Re, default_config, find}
 use Rattle.regex_syntax.specs.Grammar.{read}
 use Rattle.apcu_model.specs.declared.searching.Pattern.{Pattern}
 
--- Bytes are searched, which need not be UTF-8; where `fold` is true, letters match in either case.
+-- Bytes are searched, which need not be UTF-8; if `fold` is true, letters match in either case.
 abbrev pub config_of : Bool → Config
 config_of fold = record default_config {
   flags = record (default_config.flags) { case_insensitive = fold };
   utf8 = false;
 }
 
--- what the grammar reads in a text, where that is UTF-8 and nests no deeper than it may
+-- what the grammar parses in a text, if that is UTF-8 and nests no deeper than allowed
 abbrev pub pattern_in : Bool → List ℕ → Option Re
 pattern_in fold text =
     if is_utf8 text
@@ -28,15 +28,15 @@ abbrev pub finds : Bool → List ℕ → List ℕ → Bool
 finds fold text bytes =
     option_map_or (λ re. is_some (find re bytes 0)) (pattern_in fold text) false
 
--- the pattern matches the key; where there is none, each key matches
+-- the pattern matches the key; if there is none, each key matches
 abbrev pub key_matches : Option Pattern → List ℕ → Bool
 key_matches wanted key = option_map_or (λ p. finds p.fold p.text key) wanted true
 
--- the text is UTF-8, and the grammar reads a pattern there within its limit on nesting
+-- the text is UTF-8, and the grammar parses it within its limit on nesting
 abbrev pub is_pattern : Bool → List ℕ → Bool
 is_pattern fold text = is_some (pattern_in fold text)
 
--- a search for the expression finds something in just the keys that the pattern matches
+-- a search for the expression finds something in exactly the keys that the pattern matches
 abbrev pub FindsAs : Bool → List ℕ → Re → Type 0
 FindsAs fold text re =
     (key : List ℕ) → ((k : ℕ) → slice_index_or key k 0 < 256)

@@ -1,5 +1,5 @@
--- What the cache of one thread answers to a request, and what it leaves. `held` is the list of the
--- places of blocks that are held in this event, t the time.
+-- The reply of the single-threaded cache to a request, and the cache after it. `held` is the list
+-- of the places of blocks that are held in this event, t the time.
 use Rattle.std.specs.Prelude.{ℕ, ℤ, Bool, true, false, List, Option, Some, None, is_some}
 use Rattle.php_graph.specs.declared.kind.Kind.{Kind}
 use Rattle.apcu_model.specs.declared.request.StoreAnswer.{StoreAnswer}
@@ -34,12 +34,12 @@ abbrev pub found_in : Option Row → Reply
 found_in (Some row) = Found row.graph
 found_in None = Absent
 
--- the number that counting gives, if it gives one
+-- the new value of a counter, if it counted
 abbrev pub number_reply : Option ℤ → Reply
 number_reply (Some n) = Number n
 number_reply None = NoNumber
 
--- what is told of a row, if one was found
+-- information about a row, if one was found
 abbrev pub info_reply : Option (List Kind) → Reply
 info_reply (Some info) = Info info
 info_reply None = Absent

@@ -12,7 +12,7 @@ slot_of conf key = hash_of key % conf.slots
 abbrev pub is_in_slot : Conf → ℕ → Row → Bool
 is_in_slot conf slot row = slot_of conf row.key == slot
 
--- the rows by slot, and in one slot by their place in the list
+-- the rows by slot, and in one slot in the order of the list
 abbrev pub in_slot_order : Conf → List Row → List Row
 in_slot_order conf rows =
     flat_map (λ slot. filter (is_in_slot conf slot) rows) (range_with_len 0 conf.slots)

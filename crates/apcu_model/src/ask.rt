@@ -1,11 +1,11 @@
-//! What a worker asks, lent.
+//! A worker's request, borrowed.
 
 use crate::generator::Gen;
 use crate::searching::{Fields, List, Pattern};
 use php_graph::Graph;
 
-/// What a worker asks, lent: the requests with their keys and values by reference. Contracts see
-/// the request that it stands for.
+/// A worker's request, borrowed: the requests with their keys and values by reference. Contracts
+/// see the request that it represents.
 #[derive(Clone, Copy)]
 pub enum Ask<'a> {
     Store {
@@ -21,7 +21,7 @@ pub enum Ask<'a> {
     Inc {
         key: &'a [u8],
         step: i64,
-        /// In seconds, for a row that is new; 0 is no limit.
+        /// In seconds, for a new row; 0 is no limit.
         ttl: u32,
     },
     Cas {

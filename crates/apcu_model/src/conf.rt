@@ -7,7 +7,7 @@ ghost use Rattle.apcu_model.specs.declared.conf.TheConstants.{USUAL_WORDS};
 /// The most words of all segments together: 128 MB.
 pub const MOST_WORDS: u32 = 16_777_216;
 
-/// The most words of all segments together that an engine may be asked for: 2 GB.
+/// The most words of all segments together with which an engine can be made: 2 GB.
 pub const MOST_USABLE_WORDS: u32 = 268_435_456;
 
 /// The most slots of a cache.
@@ -22,13 +22,13 @@ pub const MOST_SEGMENTS: u32 = 64;
 pub struct Conf {
     /// All words of the segments (`apc.shm_size` in units of 8 bytes, times their number).
     pub words: u32,
-    /// The words from 0 on that are heads of hash chains. Blocks stand from here on.
+    /// The words from 0 on that are heads of hash chains. Blocks begin after them.
     pub slots: u32,
     /// `apc.ttl` in seconds: a row without a ttl of its own is stale this long after its last use;
     /// 0 is never.
     pub ttl: u32,
-    /// The number of segments (`apc.shm_segments`), each of as many words. No block crosses a
-    /// border between two of them.
+    /// The number of segments (`apc.shm_segments`), which have equally many words. No block crosses
+    /// a border between two of them.
     pub segments: u32,
 }
 
@@ -45,8 +45,7 @@ pub enum Clock {
 const USUAL_WORDS: u32 = 4_194_304;
 
 impl Conf {
-    /// The shape where nothing else is asked for: one segment of 32 MB (PHP's `apc.shm_size`),
-    /// 4,096 slots, and no time limit.
+    /// The default shape: one segment of 32 MB (PHP's `apc.shm_size`), 4,096 slots, and no ttl.
     pub fn usual() -> Conf
         ensures is { result
             ≡ record { words = USUAL_WORDS; slots = 4096; ttl = 0; segments = 1 } }
@@ -77,8 +76,8 @@ impl Conf {
             && self.slots + 16 <= self.piece()
     }
 
-    /// Whether an engine can make a cache of this shape: all that `good` asks, but `words` may be
-    /// up to 268,435,456. A good shape is usable.
+    /// Whether an engine can make a cache of this shape: all that `good` requires, but `words` may
+    /// be up to 268,435,456. A good shape is usable.
     pub fn usable(&self) -> bool
         ensures { IsTrue result ↔ IsUsable self.now }
     {
@@ -109,7 +108,7 @@ impl Conf {
         self.words / self.segments
     }
 
-    /// The number of words of the largest block that the empty segments take.
+    /// The number of words of the largest block that fits into the empty segments.
     pub fn most(&self) -> u32
         ensures { result ≡ most_of self.now }
     {

@@ -1,4 +1,4 @@
-//! Generators: what gives a value where none is found.
+//! Generators: the source of a value that is not found.
 
 ghost use Rattle.std.specs.Prelude.{◌≡◌, ◌-◌, ◌^◌, min, [], ◌∷◌, length};
 ghost use Rattle.apcu_model.specs.Levels.{EntryLevel, Generator};
@@ -7,22 +7,22 @@ ghost use Rattle.apcu_model.specs.GeneratorKinds.{generator_of};
 use php_graph::{Bytes, Graph};
 use std::marker::Model;
 
-/// What gives the value of `apcu_entry`: an entry looks for its key, and asks the generator inside
-/// it where no live row has the key. Contracts see the keys and times to live from outside in, and
-/// the value inside the innermost.
+/// The source of the value of `apcu_entry`: an entry looks up its key, and evaluates the generator
+/// inside it if no live row has the key. Contracts see the keys and times to live from the
+/// outermost inwards, and the value inside the innermost.
 #[cycle(generator)]
 pub struct Gen {
     kind: GenKind,
 }
 
-/// What a generator is outermost.
+/// The outermost part of a generator.
 #[cycle(generator)]
 #[derive(Drop)]
 pub enum GenKind {
     /// This value.
     Value(Graph),
-    /// `apcu_entry` of a key, with the time to live of a row that is new, in seconds, 0 for no
-    /// limit, and with a generator.
+    /// `apcu_entry` of a key, with the time to live of a new row, in seconds, 0 for no limit, and
+    /// with a generator.
     Entry(Bytes, u32, Box<Gen>),
 }
 
@@ -49,7 +49,7 @@ impl Drop for Gen {
 }
 
 impl Gen {
-    /// The generator that gives this value.
+    /// The generator of this value.
     pub fn value(value: Graph) -> Gen
         ensures { result ≡ record { levels = []; literal = value } }
     {
@@ -58,7 +58,7 @@ impl Gen {
         }
     }
 
-    /// An `apcu_entry` of this key round a generator. A new row lives for `ttl` seconds; 0 is no
+    /// An `apcu_entry` of this key around a generator. A new row lives for `ttl` seconds; 0 is no
     /// limit.
     pub fn entry(key: Bytes, ttl: u32, inner: Box<Gen>) -> Gen
         ensures levels { let level : EntryLevel = record { key = key; ttl = ttl } in
@@ -70,14 +70,14 @@ impl Gen {
         }
     }
 
-    /// What it is outermost.
+    /// Its outermost part.
     pub fn kind(&self) -> &GenKind
         ensures { generator_of result.now ≡ self.now }
     {
         &self.kind
     }
 
-    /// How many entries it has, one inside the other. The count stops at the last `u32`.
+    /// The number of its nested entries. The count stops at the maximum of a `u32`.
     pub fn entries(&self) -> u32
         ensures { result ≡ min (length self.now.levels) (2 ^ 32 - 1) }
     {

@@ -1,4 +1,4 @@
-//! What an iterator gives: a row's fields, a list of such rows, and a step.
+//! The results of iterators: a row's fields, a list of such rows, and a step.
 
 ghost use Rattle.std.specs.Prelude.{◌≡◌, ◌<◌, ◌^◌, ◌==◌, ◌++◌, ◌-◌, [], ◌∷◌, length, is_ok};
 ghost use Rattle.std.specs.Prelude.{if◌then◌else◌, slice_get, Some};
@@ -7,29 +7,29 @@ use php_graph::{Bytes, Graph};
 use std::alloc::{AllocError, Global};
 use std::marker::Model;
 
-/// What an iterator gives of a row.
+/// The fields of a row that an iterator returns.
 #[derive(Drop)]
 pub struct ItemRow {
     pub key: Bytes,
-    /// The value, where it is asked for.
+    /// The value, if it is selected.
     pub value: Option<Graph>,
     /// How often it was fetched.
     pub hits: u64,
-    /// When its value was changed last, in seconds.
+    /// When its value was last changed, in seconds.
     pub mtime: u64,
     /// When it was created, in seconds.
     pub ctime: u64,
-    /// When it was dropped, in seconds, for a removed row; else 0.
+    /// When it was dropped, in seconds, for a removed row; otherwise 0.
     pub dtime: u64,
-    /// When it was used last, in seconds.
+    /// When it was last used, in seconds.
     pub atime: u64,
     /// The size of its block in bytes.
     pub size: u64,
-    /// How many seconds it lives from its creation on; 0 is for ever.
+    /// How many seconds it lives after its creation; 0 is no limit.
     pub ttl: u32,
 }
 
-/// What an iterator gives in one step, in order. Contracts see the list.
+/// What an iterator returns in one step, in order. Contracts see the list.
 #[derive(Drop)]
 pub struct Items {
     rows: Vec<ItemRow>,
@@ -56,7 +56,7 @@ impl Items {
         }
     }
 
-    /// The items of this list. It takes no memory.
+    /// The items of this list. It allocates no memory.
     pub fn from_vec(rows: Vec<ItemRow>) -> Items
         requires { length rows.items < 2 ^ 32 }
         ensures { result ≡ rows.items }
@@ -64,8 +64,7 @@ impl Items {
         Items { rows }
     }
 
-    /// Adds an item at the end. Without memory the items stay as they were, and the new one is
-    /// dropped.
+    /// Adds an item at the end. Without memory the items are unchanged, and the new one is dropped.
     pub fn push(&mut self, item: ItemRow) -> Result<(), AllocError>
         requires { length self.old < 2 ^ 32 - 1 }
         ensures { self.new ≡ (if is_ok result then self.old ++ item ∷ [] else self.old) }
@@ -74,7 +73,7 @@ impl Items {
         Ok(())
     }
 
-    /// How many there are.
+    /// The number of items.
     pub fn len(&self) -> u32
         ensures { result ≡ length self.now }
     {

@@ -9,13 +9,13 @@ use std::marker::Model;
 /// The most events that the workers of one cache may make, all together.
 pub const MOST_EVENTS: u64 = 4_194_304;
 
-/// One line of a journal: whose event it was, and which workers were still copying.
+/// One line of a journal: the worker of the event, and the workers that were still copying.
 #[derive(Clone, Copy, Debug, PartialEq, Eq)]
 pub struct Mark {
     /// The worker's number, from 0.
     pub worker: u32,
-    /// A bit for each worker that was found still copying. Nobody waits for it: its block stays
-    /// taken.
+    /// A bit for each worker that was found still copying. The event does not wait for it: its
+    /// block stays taken.
     pub mask: u64,
 }
 
@@ -39,7 +39,7 @@ impl Model for Journal {
 }
 
 impl Journal {
-    /// An empty journal with room for `room` marks, which is taken here.
+    /// An empty journal with room for `room` marks, which is allocated here.
     pub fn new(alloc: Global, room: u32) -> Result<Journal, AllocError>
         ensures { IfOk result (λ j. (j.marks ≡ []) × (j.room ≡ room)) }
     {
@@ -49,7 +49,7 @@ impl Journal {
         })
     }
 
-    /// Adds a mark at the end. It takes no memory.
+    /// Adds a mark at the end. It allocates no memory.
     pub fn push(&mut self, mark: Mark)
         requires { 0 < self.old.room }
         ensures marks { self.new.marks ≡ self.old.marks ++ mark ∷ [] }
@@ -59,7 +59,7 @@ impl Journal {
         self.room -= 1;
     }
 
-    /// How many marks there are.
+    /// The number of marks.
     pub fn len(&self) -> u32
         ensures { result ≡ length self.now.marks }
     {

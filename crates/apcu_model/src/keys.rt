@@ -33,8 +33,7 @@ impl Keys {
         }
     }
 
-    /// Adds a key at the end. Without memory the keys stay as they were, and the new one is
-    /// dropped.
+    /// Adds a key at the end. Without memory the keys are unchanged, and the new one is dropped.
     pub fn push(&mut self, key: Bytes) -> Result<(), AllocError>
         requires { length self.old < 2 ^ 32 - 1 }
         ensures { self.new ≡ (if is_ok result then self.old ++ key ∷ [] else self.old) }
@@ -43,7 +42,7 @@ impl Keys {
         Ok(())
     }
 
-    /// How many there are.
+    /// The number of keys.
     pub fn len(&self) -> u32
         ensures { result ≡ length self.now }
     {

@@ -1,4 +1,4 @@
-//! What stays true along events, whatever they ask.
+//! What stays true along events, whatever their requests.
 
 ghost use Rattle.apcu_model.specs.Laws.{CountLaws, EventsKeep, HeldAlike, OneEventMore};
 ghost use Rattle.apcu_model.specs.Laws.{RowsKeepNumbers, RowsStayApart};
@@ -19,32 +19,32 @@ ghost use Rattle.apcu_model.specs.Levels.{Generator};
 ghost use Rattle.apcu_model.specs.Rows.{are_apart};
 ghost use Rattle.apcu_model.specs.Sequential.{cache_after, reply_to};
 
-/// With a single worker nobody else copies a value: 0 is the mask of each of its events, and
-/// no block is held in them. The mask 0 is legal in every event, whoever works.
+/// With a single worker no other one copies a value: 0 is the mask of each of its events, and no
+/// block is held in them. The mask 0 is legal in every event, whichever worker's it is.
 pub fn works_alone()
     ensures alone { (m : Stage) (mask : ℕ) → IsTrue (is_legal_mask 1 0 m mask) ↔ (mask ≡ 0) }
     ensures legal { (workers worker : ℕ) (m : Stage) → IsTrue (is_legal_mask workers worker m 0) }
     ensures none_held { (m : Stage) → held_places m 0 ≡ [] }
 {}
 
-/// Rows of which no two have one key stay so where some of them are picked, where a change keeps
-/// their keys, and where a row comes in the place of the one of its key, or last.
+/// Rows of which no two have the same key stay so if some of them are picked, if a change keeps
+/// their keys, and if a row is added in the place of the one of its key, or last.
 pub fn rows_stay_apart()
     ensures { RowsStayApart }
 {}
 
-/// No event changes the cache's shape, and rows of which no two have one key stay so.
+/// No event changes the cache's shape, and rows of which no two have the same key stay so.
 pub fn events_keep()
     ensures { EventsKeep }
 {}
 
-/// What making room does to the counts: they stay, or are forgotten where all rows had to go.
+/// What making room does to the counters: they are unchanged, or begin at 0 again if all rows were
+/// dropped.
 pub fn count_laws()
     ensures { CountLaws }
 {}
 
-/// Of the list of held places only its members count, not their order or how often they stand
-/// there.
+/// Only the members of the list of held places count, not their order or how often they are in it.
 pub fn held_alike()
     ensures { HeldAlike }
 {}
@@ -57,15 +57,14 @@ pub fn numbered()
 {}
 
 /// In a history of at most `MOST_EVENTS` events, each of at most eight insertions: rows and removed
-/// rows have numbers below the next one. A number that is gone never comes back: after more events
-/// each row with a number that was given before them was there then, with its key. And a number
-/// stands for one row: two rows of one number, in the same cache or in a later one, have one key
-/// and one place.
+/// rows have numbers below the next one. A number is never used again: after more events each row
+/// with a number that was given before them existed then, with its key. And a number identifies one
+/// row: two rows of one number, in the same cache or in a later one, have one key and one place.
 pub fn rows_keep_numbers()
     ensures { RowsKeepNumbers }
 {}
 
-/// What comes of one event more.
+/// What follows from one more event.
 pub fn one_event_more()
     ensures { OneEventMore }
 {}

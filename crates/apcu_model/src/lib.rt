@@ -1,4 +1,4 @@
-//! The cache of one thread: what each request answers and leaves.
+//! The single-threaded cache: the reply to each request, and the cache after it.
 #![tactic(auto)]
 
 mod ask;

@@ -1,4 +1,4 @@
-//! What a run may want at most.
+//! The limits of a run.
 
 /// The most workers of one cache. A mask of a journal has a bit for each.
 pub const MOST_WORKERS: u32 = 64;

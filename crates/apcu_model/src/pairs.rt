@@ -34,8 +34,7 @@ impl Pairs {
         }
     }
 
-    /// Adds a pair at the end. Without memory the pairs stay as they were, and the new one is
-    /// dropped.
+    /// Adds a pair at the end. Without memory the pairs are unchanged, and the new one is dropped.
     pub fn push(&mut self, key: Bytes, value: Graph) -> Result<(), AllocError>
         requires { length self.old < 2 ^ 32 - 1 }
         ensures { self.new ≡ (if is_ok result then self.old ++ (key, value) ∷ [] else self.old) }
@@ -44,7 +43,7 @@ impl Pairs {
         Ok(())
     }
 
-    /// How many there are.
+    /// The number of pairs.
     pub fn len(&self) -> u32
         ensures { result ≡ length self.now }
     {

@@ -6,7 +6,7 @@ use crate::items::Chunk;
 use crate::searching::{Fields, List, Pattern};
 use php_graph::{Bytes, Graph};
 
-/// What a worker asks of the cache. Each request is one event.
+/// A worker's request to the cache. Each request is one event.
 #[derive(Drop)]
 pub enum Request {
     /// `apcu_store` of one key, or with `exclusive` `apcu_add`, which leaves a live row as it is.
@@ -23,21 +23,21 @@ pub enum Request {
     Exists(Bytes),
     /// `apcu_delete` of one key.
     Delete(Bytes),
-    /// `apcu_inc`, or with a negated step `apcu_dec`: the integer under the key counts by the step,
-    /// in 64 bits with a sign, where the sum wraps. A key without a live row counts from 0.
+    /// `apcu_inc`, or with a negated step `apcu_dec`: adds the step to the integer under the key,
+    /// as signed 64-bit numbers; the sum wraps. A key without a live row counts from 0.
     Inc {
         key: Bytes,
         step: i64,
-        /// In seconds, for a row that is new; 0 is no limit.
+        /// In seconds, for a new row; 0 is no limit.
         ttl: u32,
     },
-    /// `apcu_cas`: the integer under the key becomes `set` where it is `expect`.
+    /// `apcu_cas`: the integer under the key becomes `set` if it is `expect`.
     Cas {
         key: Bytes,
         expect: i64,
         set: i64,
     },
-    /// `apcu_entry`, with what gives the value where no row has the key.
+    /// `apcu_entry`, with the generator of the value if no row has the key.
     Entry(Gen),
     /// `apcu_clear_cache`.
     Clear,
@@ -57,18 +57,19 @@ pub enum Request {
         list: List,
         fields: Fields,
     },
-    /// One step of `apcu_delete` of an iterator: the rows of a step over the active rows go.
+    /// One step of `apcu_delete` of an iterator: the rows of a step over the active rows are
+    /// dropped.
     ChunkDelete {
         search: Option<Pattern>,
         from: u32,
         size: u32,
     },
-    /// `APCUIterator`'s totals: of how many rows, fetched how often, and how large.
+    /// `APCUIterator`'s totals: the number of rows, their hits, and their size.
     Totals {
         search: Option<Pattern>,
         list: List,
     },
-    /// The worker's last event: it asks nothing more.
+    /// The worker's last event: it makes no more requests.
     Retire,
 }
 
@@ -76,7 +77,7 @@ impl Request {
     ghost use Rattle.std.specs.Prelude.{◌≡◌};
     ghost use Rattle.apcu_model.specs.Asking.{asked};
 
-    /// The request with its key and its value lent.
+    /// The request with its key and its value borrowed.
     pub fn lent(&self) -> Ask<'_>
         ensures { asked result ≡ self.now }
     {
@@ -137,20 +138,20 @@ impl Request {
     }
 }
 
-/// A worker's request at a time. The order of events is that in which they took effect.
+/// A worker's request at a moment. The order of events is that in which they took effect.
 #[derive(Drop)]
 pub struct Event {
     /// The worker's number, from 0.
     pub worker: u32,
     /// In seconds.
     pub t: u64,
-    /// What the worker asked for.
+    /// The worker's request.
     pub request: Request,
-    /// A bit for each worker that the cache found still copying a value.
+    /// A bit for each worker that was found still copying a value.
     pub mask: u64,
 }
 
-/// What the cache answers to a request.
+/// The cache's reply to a request.
 #[derive(Drop)]
 pub enum Reply {
     /// Whether it was done.
@@ -159,34 +160,34 @@ pub enum Reply {
     Found(Graph),
     /// No live row has the key.
     Absent,
-    /// What the counter is now.
+    /// The counter's new value.
     Number(i64),
-    /// Nothing was counted: the value is no integer, or a new row finds no place.
+    /// Nothing was counted: the value is no integer, or there is no room for a new row.
     NoNumber,
-    /// The value that a generator gave.
+    /// The value of a generator.
     Gave(Graph),
-    /// What an information call tells.
+    /// The result of an information call.
     Info(Graph),
     /// A step of an iterator.
     Chunk(Chunk),
-    /// The slot from which an iterator's deletion goes on; the number of slots at its end.
+    /// The slot from which an iterator's deletion continues; the number of slots at its end.
     Next(u32),
-    /// Of how many rows, fetched how often together (2^64 - 1 is that often or oftener), and how
-    /// many bytes their blocks have.
+    /// The number of rows, the sum of their hits, which stops at 2^64 - 1, and the number of bytes
+    /// of their blocks.
     Totals { count: u64, hits: u64, size: u64 },
     /// The worker's end.
     Ended,
 }
 
-/// How the storing of a value came out.
+/// The result of storing a value.
 #[derive(Clone, Copy, Debug, PartialEq, Eq)]
 pub enum StoreAnswer {
     /// The value cannot fit into an empty segment. Nothing changed.
     TooLarge,
-    /// An exclusive store met a live row of its key. Nothing changed.
+    /// An exclusive store found a live row of its key. Nothing changed.
     Exists,
     /// No gap is large enough, not even after room was made.
     NoRoom,
-    /// The row stands in the cache.
+    /// The row is in the cache.
     Stored,
 }

@@ -1,19 +1,19 @@
-//! What the information calls tell of a row and of the cache.
+//! What the information calls return about a row and the cache.
 
 use php_graph::Bytes;
 
-/// What a cache keeps of a row beside its key and its value, as the information calls tell it.
+/// What a cache keeps of a row besides its key and its value, as the information calls return it.
 #[derive(Clone, Copy, Debug, PartialEq, Eq)]
 pub struct RowInfo {
-    /// How many seconds it lives from its creation on; 0 is for ever.
+    /// How many seconds it lives after its creation; 0 is no limit.
     pub ttl: u32,
     /// When it was created, in seconds.
     pub ctime: u64,
-    /// When its value was changed last.
+    /// When its value was last changed.
     pub mtime: u64,
-    /// When it was used last.
+    /// When it was last used.
     pub atime: u64,
-    /// When it was dropped, for a removed row; else 0.
+    /// When it was dropped, for a removed row; otherwise 0.
     pub dtime: u64,
     /// How often it was fetched.
     pub hits: u64,
@@ -28,8 +28,7 @@ pub struct ListedRow {
     pub info: RowInfo,
 }
 
-/// What a cache counts, as `apcu_cache_info` tells it. Each count stays at its last number once
-/// there.
+/// The counters of a cache, as `apcu_cache_info` returns them. Each counter stops at its maximum.
 #[derive(Clone, Copy, Debug, PartialEq, Eq)]
 pub struct Counts {
     /// Fetches that found a row, since the last expunge.
@@ -38,8 +37,8 @@ pub struct Counts {
     pub misses: u64,
     /// Rows that were stored, since then.
     pub inserts: u64,
-    /// How often all rows had to go, since the cache was cleared.
+    /// How often all rows were dropped to make room, since the cache was cleared.
     pub expunges: u64,
-    /// The rows that are there, those whose time is over too.
+    /// The rows, expired ones included.
     pub entries: u64,
 }
