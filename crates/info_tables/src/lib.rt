@@ -1,4 +1,4 @@
-//! The graphs that the information calls answer.
+//! The graphs that the information calls return.
 #![tactic(auto)]
 
 mod tables;

@@ -1,4 +1,4 @@
-//! The graphs that the information calls answer, from the numbers and rows that they tell.
+//! The graphs that the information calls return, made from numbers and rows.
 
 ghost use Rattle.std.specs.Prelude.{◌≡◌, ℕ, ◌+◌, ◌++◌, ◌≤◌, ◌^◌, length, map, IfOk, OnOk};
 ghost use Rattle.std.specs.List.{AllByRecursion};
@@ -20,14 +20,14 @@ use php_graph::{Graph, Key, Kind, MOST_VALUES, Members};
 use seg_words::Extent;
 use std::alloc::{AllocError, Global};
 
-// The bytes of so many words.
+// The bytes of this many words.
 fn bytes_in(words: u32) -> u64
     ensures { result ≡ word_bytes words }
 {
     8 * u64::from(words)
 }
 
-/// What `apcu_key_info` tells of a row.
+/// The graph of `apcu_key_info` for a row.
 pub fn tell_key(alloc: Global, row: RowInfo) -> Result<Graph, AllocError>
     ensures { IfOk result (λ g. g ≡ info_of_key row 1) }
 {
@@ -55,7 +55,7 @@ pub fn tell_key(alloc: Global, row: RowInfo) -> Result<Graph, AllocError>
     Ok(telling.finish())
 }
 
-// The places of a row in a list, as an array under copies of these keys, whose place has so many
+// The places of a row in a list, as an array under copies of these keys, whose place has `cells`
 // words in an image.
 fn push_row(
     telling: &mut Telling,
@@ -111,7 +111,7 @@ fn keys_of_row(alloc: Global) -> Result<(Vec<Key>, u64), AllocError>
     )
 }
 
-// How many places a row has in a list.
+// The number of places of a row in a list.
 const ROW_PLACES: u32 = 9;
 
 // A list of rows.
@@ -135,7 +135,7 @@ fn push_rows(telling: &mut Telling, alloc: Global, rows: Vec<ListedRow>) -> Resu
     Ok(())
 }
 
-// How many places a gap has in a list.
+// The number of places of a gap in a list.
 const GAP_PLACES: u32 = 3;
 
 // The places of a gap in a list.
@@ -168,8 +168,8 @@ fn push_gaps(telling: &mut Telling, alloc: Global, gaps: &[Extent]) -> Result<()
     Ok(())
 }
 
-/// What `apcu_cache_info` tells of a cache without its lists, where the blocks of its rows have so
-/// many words.
+/// The graph of `apcu_cache_info` for a cache without its lists, if the blocks of its rows have
+/// this many words.
 pub fn tell_counts(
     alloc: Global,
     conf: Conf,
@@ -197,7 +197,7 @@ pub fn tell_counts(
     Ok(telling.finish())
 }
 
-// The numbers that stand in each answer of `apcu_cache_info`.
+// The numbers that are in each reply of `apcu_cache_info`.
 fn push_counts(
     telling: &mut Telling,
     conf: Conf,
@@ -219,7 +219,7 @@ fn push_counts(
     ])
 }
 
-/// What `apcu_cache_info` tells of a cache with its lists: these rows, and these removed rows.
+/// The graph of `apcu_cache_info` for a cache with its lists: these rows, and these removed rows.
 pub fn tell_cache(
     alloc: Global,
     conf: Conf,
@@ -345,7 +345,7 @@ fn push_segments(
     Ok(())
 }
 
-/// What `apcu_sma_info` tells of the segments without their gaps: how many there are, the words of
+/// The graph of `apcu_sma_info` for the segments without their gaps: their number, the words of
 /// each, and how many of all words are free.
 pub fn tell_words(alloc: Global, conf: Conf, free: u32) -> Result<Graph, AllocError>
     ensures { IfOk result (λ g. g ≡ info_array (info_words conf free) 1) }
@@ -364,7 +364,7 @@ pub fn tell_words(alloc: Global, conf: Conf, free: u32) -> Result<Graph, AllocEr
     Ok(telling.finish())
 }
 
-/// What `apcu_sma_info` tells of the segments with their gaps.
+/// The graph of `apcu_sma_info` for the segments with their gaps.
 pub fn tell_gaps(alloc: Global, conf: Conf, free: u32, gaps: &[Extent]) -> Result<Graph, AllocError>
     requires { IsUsable conf }
     ensures { IfOk result

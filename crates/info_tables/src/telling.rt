@@ -17,7 +17,7 @@ use seg_words::words_in;
 use std::alloc::{AllocError, Global};
 use std::marker::Model;
 
-// Places so far. The first stands apart, as a graph keeps it. Contracts see what stands at them.
+// Places so far. The first is separate, as a graph keeps it. Contracts see what is at them.
 pub(crate) struct Telling {
     first: Kind,
     others: Vec<Place>,
@@ -49,7 +49,7 @@ impl Model for Telling {
 }
 
 impl Telling {
-    // The first place, whose image has so many words.
+    // The first place, whose image has this many words.
     pub(crate) fn new(alloc: Global, first: Kind, cells: u64) -> Telling
         requires cells { cells ≡ cells_of first }
         requires small { cells ≤ 2 ^ 34 }
@@ -62,7 +62,7 @@ impl Telling {
         }
     }
 
-    // How many places there are.
+    // The number of places.
     pub(crate) fn len(&self) -> u32
         ensures len { result ≡ length self.now }
         ensures few { result ≤ 2 ^ 24 }
@@ -70,7 +70,7 @@ impl Telling {
         self.others.len() as u32 + 1
     }
 
-    // One place more, whose image has so many words.
+    // One more place, whose image has this many words.
     pub(crate) fn push(&mut self, kind: Kind, cells: u64) -> Result<(), AllocError>
         requires cells { cells ≡ cells_of kind }
         requires small { cells ≤ 2 ^ 34 }
@@ -87,7 +87,7 @@ impl Telling {
         Ok(())
     }
 
-    // Numbers; one from 2^63 on is the last one of 64 bits.
+    // Numbers; one from 2^63 on becomes the maximum of 64 bits.
     pub(crate) fn push_numbers(&mut self, numbers: &[u64]) -> Result<(), AllocError>
         ensures { OnOk result (self.new ≡ self.old ++ map number_kind numbers.now) }
     {
@@ -99,7 +99,7 @@ impl Telling {
         Ok(())
     }
 
-    // Room for so many places more, so that they are not moved while they are added.
+    // Reserves room for this many more places, so that they are not moved while they are added.
     pub(crate) fn reserve(&mut self, places: usize) -> Result<(), AllocError>
         ensures { self.new ≡ self.old }
     {
@@ -128,8 +128,8 @@ impl Telling {
     }
 }
 
-// The places of these numbers behind the others, of which an image has the first one at `at`. The
-// room for all is asked for once.
+// The places of these numbers after the others, of which an image has the first one at `at`. The
+// room for all is reserved once.
 fn push_places(others: &mut Vec<Place>, at: u64, numbers: &[u64]) -> Result<(), AllocError>
     requires { at + 2 * length numbers.now < 2 ^ 64 }
     ensures ok { OnOk result
@@ -148,7 +148,7 @@ fn push_places(others: &mut Vec<Place>, at: u64, numbers: &[u64]) -> Result<(), 
     Ok(())
 }
 
-// A number; from 2^63 on it is the last one of 64 bits.
+// A number; from 2^63 on it becomes the maximum of 64 bits.
 fn number(n: u64) -> Kind
     ensures { result ≡ number_kind n }
 {
@@ -156,7 +156,7 @@ fn number(n: u64) -> Kind
     Kind::Int(n.min(most).cast_signed())
 }
 
-// An array with these names, whose values have so many places each and begin at `place`; and how
+// An array with these names, whose values have this many places each and begin at `place`; and how
 // many words its own place has in an image.
 pub(crate) fn array_of(
     alloc: Global,
@@ -227,8 +227,8 @@ pub(crate) fn item(i: u32, place: u32) -> (Key, Child)
     (Key::Int(i64::from(i)), Child::Own(place))
 }
 
-// A list of so many values, which have `step` places each and begin at `place`; and how many words
-// its own place has in an image.
+// A list of this many values, which have `step` places each and begin at `place`; and how many
+// words its own place has in an image.
 pub(crate) fn list_of(
     alloc: Global,
     count: u32,
