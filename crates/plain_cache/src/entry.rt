@@ -56,14 +56,14 @@ impl Entry {
         self.key.as_slice() == key
     }
 
-    // Whether its own time is over. A sum past 64 bits lies after every time.
+    // Whether its own ttl has expired. A sum past 64 bits lies after every time.
     pub(crate) fn is_hard_expired(&self, t: u64) -> bool
         ensures { result ≡ is_hard_expired t self.now }
     {
         self.ttl > 0 && has_elapsed(self.ctime, self.ttl, t)
     }
 
-    // Whether its own time, or where it has none the cache's, is over.
+    // Whether its own ttl, or if it has none the cache's, has expired.
     pub(crate) fn is_expired(&self, conf: Conf, t: u64) -> bool
         ensures { result ≡ is_expired conf t self.now }
     {
@@ -89,7 +89,7 @@ impl Entry {
         }
     }
 
-    // Counts that it was fetched, where this is the key's row.
+    // Counts that it was fetched, if this is the key's row.
     pub(crate) fn touch(&mut self, key: &[u8], t: u64)
         ensures { self.new ≡ touched_at key.now t self.old }
     {
@@ -101,7 +101,7 @@ impl Entry {
 }
 
 impl Entry {
-    // The row of the key holds this integer, set at the moment t. It takes no memory.
+    // The row of the key holds this integer, set at the moment t. It allocates no memory.
     pub(crate) fn set_integer(&mut self, alloc: Global, key: &[u8], n: i64, t: u64)
         ensures { self.new ≡ with_integer_at key.now n t self.old }
     {

@@ -1,4 +1,4 @@
-//! Values that generators give.
+//! Values of generators.
 
 ghost use Rattle.std.specs.Prelude.{◌≡◌, ◌+◌, ◌≤◌, [], vec_len, vec_capacity, IfOk, OnOk, OnErr};
 ghost use Rattle.apcu_model.specs.Generators.{given_by, missed_levels, looked_for, filled, entered};
@@ -12,7 +12,7 @@ use seg_words::Extent;
 use std::alloc::AllocError;
 
 impl State {
-    // The value that a generator gives, lent.
+    // The value of a generator, borrowed.
     fn given_by<'a>(&'a self, generator: &'a Gen, t: u64) -> &'a Graph
         ensures { result.now ≡ given_by generator.now t (cache_in self.now) }
     {
@@ -25,7 +25,7 @@ impl State {
         }
     }
 
-    // Counts the look-ups of a generator's keys, as far as one has a live row.
+    // Counts the look-ups of a generator's keys, until one has a live row.
     fn count_levels(&mut self, generator: &Gen, t: u64)
         requires { IsValid self.old }
         ensures cache { cache_in self.new
@@ -46,8 +46,8 @@ impl State {
         }
     }
 
-    // Takes memory for so many new rows, and then counts the look-ups of the generator's keys. The
-    // list has room for the blocks of all rows.
+    // Allocates memory for this many new rows, and then counts the look-ups of the generator's
+    // keys. The list has room for the blocks of all rows.
     fn count_reserved(
         &mut self,
         generator: &Gen,
@@ -71,8 +71,8 @@ impl State {
     }
 
     // Stores copies of the value under the missed keys of a generator, inner first, after the
-    // look-ups of the whole generator were counted. Memory, also for so many further rows, is taken
-    // before anything changes.
+    // look-ups of the whole generator were counted. Memory, also for this many further rows, is
+    // allocated before anything changes.
     fn fill(
         &mut self,
         generator: &Gen,
@@ -107,8 +107,8 @@ impl State {
         }
     }
 
-    // The value that a generator gives; then it stands under the keys that were missed and could
-    // be stored. Memory is taken before anything changes.
+    // The value of a generator, which is then stored under the keys that were missed, if it can be.
+    // Memory is allocated before anything changes.
     pub(crate) fn enter(&mut self, generator: &Gen, t: u64) -> Result<Graph, AllocError>
         requires { IsValid self.old }
         ensures value { IfOk result (λ value. value

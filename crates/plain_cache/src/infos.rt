@@ -1,4 +1,4 @@
-//! What the plain cache tells of itself.
+//! Information about the plain cache.
 
 ghost use Rattle.std.specs.Prelude.{◌≡◌, ◌+◌, ◌<◌, ◌^◌, ◌++◌, [], ◌∷◌, map, filter, reverse};
 ghost use Rattle.std.specs.Prelude.{if◌then◌else◌, ◌≤◌, sum_by, IfOk, OnOk};
@@ -21,7 +21,7 @@ use seg_words::{Extent, begins_segment};
 use std::alloc::{AllocError, Global};
 
 impl Entry {
-    // What is told of it beside its key and its value.
+    // Information about it besides its key and its value.
     fn info(&self) -> RowInfo
         ensures { result ≡ info_of_row self.now }
     {
@@ -47,7 +47,7 @@ impl Entry {
     }
 }
 
-// The rows of a hash chain come behind those that are listed.
+// Appends the rows of a hash chain to the list.
 fn list_slot(
     rows: &[Entry],
     alloc: Global,
@@ -80,7 +80,7 @@ fn list_rows(rows: &[Entry], alloc: Global, conf: Conf) -> Result<Vec<ListedRow>
     Ok(list)
 }
 
-// The words of all blocks, as many as are told.
+// The words of all blocks, as many as are reported.
 fn words_of(rows: &[Entry]) -> u64
     ensures { number_kind (word_bytes result)
         ≡ number_kind (word_bytes (sum_by (λ (row : Row). row.size) rows.now)) }
@@ -110,7 +110,7 @@ fn put_word(gaps: &mut Vec<Extent>, word: u32, piece: u32) -> Result<(), AllocEr
     put(gaps, word, 1)
 }
 
-// One gap more, at the end.
+// One more gap, at the end.
 fn put(gaps: &mut Vec<Extent>, place: u32, size: u32) -> Result<(), AllocError>
     ensures { OnOk result
         (gaps.new.items ≡ gaps.old.items ++ record { place = place; size = size } ∷ []) }
@@ -140,8 +140,8 @@ fn is_free_word(extents: &[Extent], word: u32) -> bool
     true
 }
 
-// One word more below those that were looked at: it comes before the gaps, where it is free.
-// Answers how many words the gaps have then.
+// One more word below those that were read: it comes before the gaps, if it is free. Returns the
+// number of words of the gaps then.
 fn look_at_word(
     extents: &[Extent],
     word: u32,
@@ -164,7 +164,7 @@ fn look_at_word(
     Ok(free + 1)
 }
 
-// The gaps beside some blocks, and how many words they have.
+// The gaps between some blocks, and the number of their words.
 fn gaps_beside(
     alloc: Global,
     conf: Conf,
@@ -186,7 +186,7 @@ fn gaps_beside(
 }
 
 impl State {
-    // What is told of the row that a look-up of the key finds.
+    // Information about the row that a look-up of the key finds.
     pub(crate) fn key_info(&self, key: &[u8], t: u64) -> Result<Option<Graph>, AllocError>
         ensures { IfOk result (λ g. g ≡ key_info_of key.now t (cache_in self.now)) }
     {
@@ -196,7 +196,7 @@ impl State {
         }
     }
 
-    // What is told of the cache.
+    // Information about the cache.
     pub(crate) fn cache_info(&self, limited: bool) -> Result<Graph, AllocError>
         requires { IsValid self.now }
         ensures { IfOk result (λ g. g ≡ cache_info_of limited (cache_in self.now)) }
@@ -210,7 +210,7 @@ impl State {
         tell_cache(self.alloc, self.conf, self.counts(), words, rows, removed)
     }
 
-    // The gaps, and how many words they have.
+    // The gaps, and the number of their words.
     fn gaps(&self) -> Result<(Vec<Extent>, u32), AllocError>
         ensures gaps { IfOk result (λ r. r.0.items ≡ gaps_of (cache_in self.now)) }
         ensures words { IfOk result (λ r. r.1 ≡ gap_words_of (cache_in self.now)) }
@@ -221,7 +221,7 @@ impl State {
         Ok((gaps, free))
     }
 
-    // What is told of the segment.
+    // Information about the segment.
     pub(crate) fn sma_info(&self, limited: bool) -> Result<Graph, AllocError>
         requires { IsValid self.now }
         ensures { IfOk result (λ g. g ≡ sma_info_of limited (cache_in self.now)) }

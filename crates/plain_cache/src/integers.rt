@@ -1,4 +1,4 @@
-//! Integers under keys: counted with, and set where they are as expected.
+//! Integers under keys: counted, and replaced if they are the expected one.
 
 ghost use Rattle.std.specs.Prelude.{◌≡◌, ◌<◌, ◌^◌, [], ◌∷◌, length, option_map, IfOk, OnOk};
 ghost use Rattle.std.specs.Prelude.{OnErr};
@@ -48,7 +48,7 @@ impl State {
         set_in(&mut self.rows, self.alloc, key, n, t);
     }
 
-    // The counter under the key counts by the step; the number that this gives.
+    // The counter under the key counts by the step; its new value.
     pub(crate) fn count(
         &mut self,
         key: &[u8],
@@ -78,7 +78,7 @@ impl State {
         Ok(Some(sum))
     }
 
-    // The integer under the key is set where it is the one that is expected; whether it is.
+    // Replaces the integer under the key if it is the expected one, and returns whether it is.
     pub(crate) fn swap(&mut self, key: &[u8], expect: i64, set: i64, t: u64) -> bool
         requires { IsValid self.old }
         ensures reply { result ≡ is_expected expect (live_row key.now t (cache_in self.old)) }

@@ -1,4 +1,5 @@
-//! A plain cache of one thread over a list of rows, which answers each request as the model says.
+//! A plain single-threaded cache over a list of rows, which computes the reply that the model
+//! defines.
 #![tactic(auto)]
 
 mod entry;

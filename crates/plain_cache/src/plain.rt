@@ -1,4 +1,4 @@
-//! The plain cache of one thread: the program that computes the definition.
+//! The plain single-threaded cache: the program that computes the definition.
 
 ghost use Rattle.std.specs.Prelude.{◌≡◌, ℕ, ◌<◌, ◌^◌, false, [], length, MatchOption};
 ghost use Rattle.std.specs.Prelude.{IfOk, OnOk, OnErr};
@@ -16,8 +16,8 @@ use php_graph::{Bytes, Graph};
 use std::alloc::{AllocError, Global};
 use std::marker::Model;
 
-/// A cache of one thread that keeps its rows in a list and looks at each of them: it shows what
-/// the cache in the shared segment has to do. Contracts see its rows and counts.
+/// A single-threaded cache that keeps its rows in a list and reads each of them: it shows what the
+/// cache in the shared segment has to do. Contracts see its rows and counters.
 pub struct Plain {
     state: State,
 }
@@ -40,7 +40,7 @@ impl Model for Plain {
 }
 
 impl Plain {
-    /// An empty cache of this shape. Its memory is taken from `alloc` as rows come in.
+    /// An empty cache of this shape. Its memory is allocated from `alloc` as rows are added.
     pub fn new(alloc: Global, conf: &Conf) -> Plain
         requires { IsUsable conf.now }
         ensures { result ≡ empty_cache conf.now }
@@ -59,17 +59,17 @@ impl Plain {
         }
     }
 
-    /// What it counts.
+    /// Its counters.
     pub fn counts(&self) -> Counts
         ensures { result ≡ counts_of self.now }
     {
         self.state.counts()
     }
 
-    /// Answers a request at the time `t`, in seconds. Where memory is missing, nothing changed.
+    /// Replies to a request at the time `t`, in seconds. If there is no memory, nothing changed.
     ///
-    /// It copies the key and the value that it stores, and the value that it answers. The calls
-    /// below copy none. It compiles no patterns, so a request of an iterator may not be asked.
+    /// It copies the key and the value that it stores, and the value that it returns. The calls
+    /// below copy none. It compiles no patterns, so requests of iterators are not allowed.
     pub fn ask(&mut self, request: &Request, t: u64) -> Result<Reply, AllocError>
         requires plain { is_iteration request.now ≡ false }
         ensures reply { IfOk result (λ r. r ≡ reply_to [] t request.now self.old) }
@@ -131,7 +131,7 @@ impl Plain {
         Ok(Reply::Flag(self.store(key, value, ttl, exclusive, t)?))
     }
 
-    // Answers a copy of the value that it finds, and counts the fetch.
+    // Returns a copy of the value that it finds, and counts the fetch.
     fn fetch_copy(&mut self, key: &[u8], t: u64) -> Result<Reply, AllocError>
         ensures reply { IfOk result (λ r. r ≡ reply_to [] t (Fetch key.now) self.old) }
         ensures after { OnOk result (self.new ≡ cache_after [] t (Fetch key.now) self.old) }
@@ -145,12 +145,12 @@ impl Plain {
         Ok(reply)
     }
 
-    /// Stores a value at the time `t`, and answers whether it then stands in the cache. `ttl` is in
-    /// seconds, 0 is no limit; an `exclusive` store leaves a live row as it is. Where memory is
-    /// missing, nothing changed.
+    /// Stores a value at the time `t`, and returns whether it is then in the cache. `ttl` is in
+    /// seconds, 0 is no limit; an `exclusive` store leaves a live row as it is. If there is no
+    /// memory, nothing changed.
     ///
-    /// It takes key and value over instead of copying them. Nobody copies a value meanwhile, so the
-    /// blocks of rows that are dropped are free at once.
+    /// It takes ownership of key and value instead of copying them. No worker copies a value
+    /// meanwhile, so the blocks of rows that are dropped are free at once.
     pub fn store(
         &mut self,
         key: Bytes,
@@ -168,8 +168,8 @@ impl Plain {
         self.state.store(key, value, ttl, exclusive, t)
     }
 
-    /// The value that a fetch of the key at the time `t` finds, lent and not copied; `None` where
-    /// it finds none. It takes no memory and counts nothing: `count_fetch` does.
+    /// The value that a fetch of the key at the time `t` finds, borrowed and not copied; `None` if
+    /// it finds none. It allocates no memory and counts nothing: `count_fetch` does.
     pub fn live_value(&self, key: &[u8], t: u64) -> Option<&Graph>
         ensures { MatchOption result (reply_to [] t (Fetch key.now) self.now ≡ Absent)
             (λ g. reply_to [] t (Fetch key.now) self.now ≡ Found g.now) }
@@ -177,8 +177,8 @@ impl Plain {
         self.state.live_value(key, t)
     }
 
-    /// Counts a fetch of the key at the time `t`: a hit and the row's use, or a miss. It takes no
-    /// memory.
+    /// Counts a fetch of the key at the time `t`: a hit and the row's use, or a miss. It allocates
+    /// no memory.
     pub fn count_fetch(&mut self, key: &[u8], t: u64)
         ensures { self.new ≡ cache_after [] t (Fetch key.now) self.old }
     {
@@ -192,8 +192,8 @@ impl Plain {
         self.state.is_live(key, t)
     }
 
-    /// Drops the row that a look-up of the key at the time `t` finds, and answers whether there is
-    /// one. A row whose own time is over is not found, and stays. It takes no memory.
+    /// Drops the row that a look-up of the key at the time `t` finds, and returns whether there is
+    /// one. An expired row is not found, and stays. It allocates no memory.
     pub fn delete(&mut self, key: &[u8], t: u64) -> bool
         ensures reply { Flag result ≡ reply_to [] t (Delete key.now) self.old }
         ensures after { self.new ≡ cache_after [] t (Delete key.now) self.old }
@@ -201,10 +201,10 @@ impl Plain {
         self.state.delete(key, t)
     }
 
-    /// Counts by the step at the time `t`, and answers what the counter is then: the old integer
-    /// and the step in 64 bits with a sign, where the sum wraps. Without a live row it counts from
-    /// 0, in a new row that lives for `ttl` seconds; 0 is no limit. `None` where the value is no
-    /// integer, or the new row finds no place. Where memory is missing, nothing changed.
+    /// Counts by the step at the time `t`, and returns the counter's new value: the old integer and
+    /// the step as signed 64-bit numbers; the sum wraps. Without a live row it counts from 0, in a
+    /// new row that lives for `ttl` seconds; 0 is no limit. `None` if the value is no integer, or
+    /// there is no room for the new row. If there is no memory, nothing changed.
     pub fn inc(
         &mut self,
         key: &[u8],
@@ -221,8 +221,8 @@ impl Plain {
         self.state.count(key, step, ttl, t)
     }
 
-    /// Sets the integer under the key at the time `t`, where it is `expect`; whether it is. It
-    /// never makes a row. It takes no memory.
+    /// Sets the integer under the key at the time `t`, if it is `expect`, and returns whether it
+    /// is. It never makes a row. It allocates no memory.
     pub fn cas(&mut self, key: &[u8], expect: i64, set: i64, t: u64) -> bool
         ensures reply { Flag result ≡ reply_to [] t (Cas key.now expect set) self.old }
         ensures after { self.new ≡ cache_after [] t (Cas key.now expect set) self.old }
@@ -230,7 +230,7 @@ impl Plain {
         self.state.swap(key, expect, set, t)
     }
 
-    /// Drops all rows, and sets hits, misses, inserts and expunges to 0. It takes no memory.
+    /// Drops all rows, and sets hits, misses, inserts and expunges to 0. It allocates no memory.
     pub fn clear(&mut self)
         ensures { (t : ℕ) → self.new ≡ cache_after [] t Clear self.old }
     {

@@ -1,4 +1,4 @@
-//! The rows of the plain cache: what finds, drops and puts one.
+//! The rows of the plain cache: finding, dropping and putting one.
 
 ghost use Rattle.std.specs.Prelude.{◌≡◌, ◌+◌, ◌<◌, ◌≤◌, ◌&&◌, not, true, false, if◌then◌else◌};
 ghost use Rattle.std.specs.Prelude.{length};
@@ -32,7 +32,7 @@ pub(crate) fn live_in<'a>(rows: &'a [Entry], key: &[u8], t: u64) -> Option<&'a E
     None
 }
 
-// Where the key's row stands.
+// The index of the key's row.
 fn place_of(rows: &[Entry], key: &[u8]) -> Option<usize>
     ensures { MatchOption result (list_any (has_key key.now) rows.now ≡ false)
         (λ i. (i < length rows.now)
@@ -64,7 +64,7 @@ pub(crate) fn set_in(rows: &mut [Entry], alloc: Global, key: &[u8], n: i64, t: u
     }
 }
 
-// The blocks of all rows, in place of what the list held. It has room for them.
+// The blocks of all rows, replacing what the list held. It has room for them.
 pub(crate) fn list_extents(rows: &[Entry], extents: &mut Vec<Extent>)
     requires { length rows.now ≤ vec_capacity extents.old }
     ensures items { extents.new.items ≡ map extent_of rows.now }
@@ -76,7 +76,7 @@ pub(crate) fn list_extents(rows: &[Entry], extents: &mut Vec<Extent>)
     }
 }
 
-// All expired rows go.
+// Drops all expired rows.
 pub(crate) fn drop_expired(rows: &mut Vec<Entry>, conf: Conf, t: u64)
     ensures items { rows.new.items ≡ filter (λ row. not (is_expired conf t row)) rows.old.items }
     ensures less { vec_len rows.new ≤ vec_len rows.old }
@@ -85,14 +85,14 @@ pub(crate) fn drop_expired(rows: &mut Vec<Entry>, conf: Conf, t: u64)
     rows.retain(|row| !row.is_expired(conf, t));
 }
 
-// The key's row goes.
+// Drops the key's row.
 pub(crate) fn drop_key(rows: &mut Vec<Entry>, key: &[u8])
     ensures { rows.new.items ≡ filter (λ row. not (has_key key.now row)) rows.old.items }
 {
     rows.retain(|row| !row.has_key(key));
 }
 
-// The expired rows of one hash chain go.
+// Drops the expired rows of one hash chain.
 pub(crate) fn drop_expired_in(rows: &mut Vec<Entry>, conf: Conf, slot: u64, t: u64)
     requires { 0 < conf.slots }
     ensures items { rows.new.items
@@ -103,7 +103,7 @@ pub(crate) fn drop_expired_in(rows: &mut Vec<Entry>, conf: Conf, slot: u64, t: u
     rows.retain(|row| !(row.is_in_slot(conf, slot) && row.is_expired(conf, t)));
 }
 
-// The row stands in the place of the row of its key, or last. There is room for it.
+// The row replaces the row of its key, or is last. There is room for it.
 pub(crate) fn put_row(rows: &mut Vec<Entry>, new: Entry)
     requires apart { are_apart rows.old.items ≡ true }
     requires room { vec_len rows.old < vec_capacity rows.old }

@@ -1,4 +1,4 @@
-//! The rows and counts of the plain cache, and how a row comes in.
+//! The rows and counters of the plain cache, and how a row is added.
 
 ghost use Rattle.std.specs.Prelude.{◌≡◌, ℕ, ◌+◌, ◌<◌, ◌≤◌, ⊤, true, false, [], is_some};
 ghost use Rattle.std.specs.Prelude.{vec_len, vec_capacity, MatchOption, IfOk, OnOk, OnErr};
@@ -34,7 +34,7 @@ pub(crate) struct State {
     pub(crate) expunges: u64,
 }
 
-// What is to be stored: owned already, so that no memory is missing later.
+// What is to be stored: owned already, so that no memory is needed later.
 #[derive(Drop)]
 struct Draft {
     key: Bytes,
@@ -44,7 +44,7 @@ struct Draft {
 }
 
 impl State {
-    // The least place where a block of so many words fits. The list has room for all blocks.
+    // The lowest place where a block of this many words fits. The list has room for all blocks.
     fn gap(&self, n: u32, extents: &mut Vec<Extent>) -> Option<u32>
         requires room { vec_len self.now.rows ≤ vec_capacity extents.old }
         requires usable { IsUsable self.now.conf }
@@ -61,7 +61,7 @@ impl State {
         )
     }
 
-    // Expired rows go, where the cache has a time limit.
+    // Drops expired rows, if the cache has a ttl.
     fn expire(&mut self, t: u64)
         requires { IsValid self.old }
         ensures cache { cache_in self.new ≡ expired_dropped [] t (cache_in self.old) }
@@ -74,7 +74,7 @@ impl State {
         }
     }
 
-    // All rows go, and what was counted since the last time.
+    // Drops all rows, and sets the counters of hits, misses and inserts to 0.
     fn expunge(&mut self)
         requires { IsValid self.old }
         ensures cache { (t : ℕ) → cache_in self.new ≡ expunged [] t (cache_in self.old) }
@@ -89,7 +89,7 @@ impl State {
         self.expunges = self.expunges.saturating_add(1);
     }
 
-    // Makes room for a block, and answers the least place where it then fits.
+    // Makes room for a block, and returns the lowest place where it then fits.
     fn make_room(&mut self, n: u32, t: u64, extents: &mut Vec<Extent>) -> Option<u32>
         requires valid { IsValid self.old }
         requires listed { vec_len self.old.rows ≤ vec_capacity extents.old }
@@ -113,7 +113,7 @@ impl State {
         self.gap(n, extents)
     }
 
-    // The row comes in at a place where it fits.
+    // Adds the row at a place where it fits.
     fn put(&mut self, draft: Draft, place: u32, t: u64)
         requires valid { IsValid self.old }
         requires room { vec_len self.old.rows < vec_capacity self.old.rows }
@@ -142,7 +142,7 @@ impl State {
         self.inserts = self.inserts.saturating_add(1);
     }
 
-    // Makes room and puts the row there, where memory for it was taken. Whether it found a place.
+    // Makes room and puts the row there, if memory for it was allocated. Returns whether it fitted.
     fn insert_reserved(&mut self, draft: Draft, t: u64, extents: &mut Vec<Extent>) -> bool
         requires valid { IsValid self.old }
         requires listed { vec_len self.old.rows ≤ vec_capacity extents.old }
@@ -167,7 +167,7 @@ impl State {
         }
     }
 
-    // Memory is taken before anything changes.
+    // Memory is allocated before anything changes.
     fn insert(&mut self, draft: Draft, t: u64) -> Result<bool, AllocError>
         requires { IsValid self.old }
         ensures reply { let d = draft in let room = with_room [] d.size t (cache_in self.old) in
@@ -184,7 +184,7 @@ impl State {
         Ok(self.insert_reserved(draft, t, &mut extents))
     }
 
-    // What is counted, and how many rows there are.
+    // The counters, and the number of rows.
     pub(crate) fn counts(&self) -> Counts
         ensures { result ≡ counts_of (cache_in self.now) }
     {
@@ -204,7 +204,7 @@ impl State {
         live_in(&self.rows, key, t).is_some()
     }
 
-    // What is to be inserted: nothing where the empty segments could not take it, or where it is
+    // What is to be inserted: nothing if the empty segments could not take it, or if it is
     // exclusive and a live row has the key.
     fn draft(&self, key: Bytes, value: Graph, ttl: u32, exclusive: bool, t: u64) -> Option<Draft>
         requires { IsValid self.now }
@@ -230,7 +230,7 @@ impl State {
         })
     }
 
-    // Stores a value, and answers whether it stands in the cache.
+    // Stores a value, and returns whether it is in the cache.
     pub(crate) fn store(
         &mut self,
         key: Bytes,
@@ -253,7 +253,7 @@ impl State {
         }
     }
 
-    // Stores a value where no live row has the key, where memory for it was taken.
+    // Stores a value if no live row has the key, with memory that was allocated.
     pub(crate) fn add_reserved(
         &mut self,
         key: Bytes,
@@ -306,7 +306,7 @@ impl State {
         }
     }
 
-    // The row that a look-up of the key finds goes. Whether there is one.
+    // Drops the row that a look-up of the key finds, and returns whether there is one.
     pub(crate) fn delete(&mut self, key: &[u8], t: u64) -> bool
         requires { IsValid self.old }
         ensures reply { result ≡ is_some (live_row key.now t (cache_in self.old)) }
@@ -320,7 +320,7 @@ impl State {
         true
     }
 
-    // All rows go, and all that was counted.
+    // Drops all rows, and sets all counters to 0.
     pub(crate) fn clear(&mut self)
         requires { IsValid self.old }
         ensures cache { (t : ℕ) → cache_in self.new ≡ cleared [] t (cache_in self.old) }
