@@ -1,4 +1,4 @@
--- The limits that the pages name, as numbers.
+-- The limits that the pages state, as numbers.
 use Rattle.std.specs.Prelude.{◌≡◌, ◌*◌}
 use Rattle.php_graph.specs.declared.builder.TheConstants as graphs
 use Rattle.apcu_model.specs.declared.conf.TheConstants as shapes

@@ -7,12 +7,12 @@ use Rattle.std.specs.Str.Parse.{digits_value}
 
 -- ---- numbers
 
--- digits, at least one and at most so many
+-- digits, at least one and at most this many
 abbrev pub is_number : ℕ → List ℕ → Bool
 is_number most text =
     all_ascii_digits text && (nat_lt 0 (length text) && nat_le (length text) most)
 
--- the number that they write, where it is not above this one; zeros may stand in front
+-- the number that they write, if it is not above this one; leading zeros are allowed
 abbrev pub number_in : ℕ → ℕ → List ℕ → Option ℕ
 number_in most high text =
     if is_number most text && nat_le (digits_value 10 text) high
@@ -21,7 +21,7 @@ number_in most high text =
 
 -- ---- sizes
 
--- how many bytes a letter stands for: K, M and G, or k, m and g; 1 where it is none of them
+-- how many bytes a letter stands for: K, M and G, or k, m and g; 1 if it is none of them
 abbrev pub unit_of : ℕ → ℕ
 unit_of letter =
     if letter == 75 || letter == 107 then 1024
@@ -29,7 +29,7 @@ unit_of letter =
     else if letter == 71 || letter == 103 then 1073741824
     else 1
 
--- the last byte, and what stands before it
+-- the last byte, and what precedes it
 abbrev pub last_byte : List ℕ → ℕ
 last_byte text = get_or text (length text - 1) 0
 
@@ -39,7 +39,7 @@ but_last text = take (length text - 1) text
 abbrev pub most_bytes : ℕ
 most_bytes = 134217728
 
--- a number of at most ten digits, and at most one letter behind it
+-- a number of at most ten digits, and at most one letter after it
 abbrev pub bytes_in : List ℕ → Option ℕ
 bytes_in text =
     if unit_of (last_byte text) == 1 then number_in 10 most_bytes text
@@ -57,7 +57,7 @@ words_in_size text = option_and_then words_by (bytes_in text)
 
 -- ---- bounds
 
--- the same, where it is not below another one
+-- the same, if it is not below another one
 abbrev pub at_least : ℕ → ℕ → Option ℕ
 at_least low n = if nat_le low n then Some n else None
 

@@ -1,4 +1,4 @@
--- The options of the program, and what its words ask for by them.
+-- The options of the program, and what its arguments ask for by them.
 use Rattle.std.specs.Prelude.{◌≡◌, ℕ, ◌+◌, ◌*◌, ◌%◌, ◌≤◌, Bool, true, false, not, ◌&&◌, ◌||◌, ◌==◌}
 use Rattle.std.specs.Prelude.{nat_le, if◌then◌else◌, List, [], ◌∷◌, map, codes, Option, Some, None}
 use Rattle.std.specs.Prelude.{String, string_bytes}
@@ -20,8 +20,7 @@ use Rattle.conf_read.specs.Tasks.{task_by}
 
 -- ---- the table
 
--- an option: its name, what stands for it where it is left out, if anything does, and what is read
--- of its value
+-- an option: its name, its default, if there is one, and how its value is read
 pub record ProgramOption : Type 0 where
   pub name : Text
   pub default : Option ℕ
@@ -37,16 +36,16 @@ segments = record { name = codes "segments"; default = Some 1; read = number_fro
 abbrev pub slots : ProgramOption
 slots = record { name = codes "slots"; default = Some 4096; read = number_from 2 MOST_SLOTS }
 
--- in seconds; 0: no row grows old
+-- in seconds; 0: no row expires
 abbrev pub ttl : ProgramOption
 ttl = record { name = codes "ttl"; default = Some 0; read = number_from 0 4294967295 }
 
--- whether a call's moment is the start of its request: 1 where it is
+-- whether a call's moment is the start of its request: 1 if it is
 abbrev pub use_request_time : ProgramOption
 use_request_time =
     record { name = codes "use-request-time"; default = Some 0; read = number_from 0 1 }
 
--- the number that scripts are made from; nothing stands for it
+-- the number from which scripts are made; it has no default
 abbrev pub generate : ProgramOption
 generate =
     record { name = codes "generate"; default = None; read = number_from 0 18446744073709551615 }
@@ -59,15 +58,15 @@ workers = record { name = codes "workers"; default = Some 4; read = number_from 
 abbrev pub calls : ProgramOption
 calls = record { name = codes "calls"; default = Some 1000; read = number_from 0 1000000 }
 
--- how many bytes of a bundle stand in front of the scripts; nothing stands for it
+-- how many bytes of a bundle precede the scripts; it has no default
 abbrev pub preload : ProgramOption
 preload = record { name = codes "preload"; default = None; read = number_from 0 LONGEST_INPUT }
 
--- how many bytes of scripts stand in front of an output that is to be judged
+-- how many bytes of scripts precede an output that is to be judged
 abbrev pub verify : ProgramOption
 verify = record { name = codes "verify"; default = None; read = number_from 0 LONGEST_INPUT }
 
--- whether the map of the cache's words is printed behind a play: 1 where it is
+-- whether the map of the cache's words is printed after a play: 1 if it is
 abbrev pub map_wanted : ProgramOption
 map_wanted = record { name = codes "map"; default = Some 0; read = number_from 0 1 }
 
@@ -82,7 +81,7 @@ names = map (λ o. o.name) options
 abbrev pub program : App
 program = with_options (new_app (codes "apcu_run")) names
 
--- ---- what the words ask for
+-- ---- what the arguments ask for
 
 infixl 10 ◌>>=◌
 abbrev pub ◌>>=◌ : {A B : Type 0} → Option A → (A → Option B) → Option B
@@ -93,17 +92,17 @@ abbrev pub read_or : Option ℕ → (Text → Option ℕ) → Option Text → Op
 read_or default read None = Some default
 read_or default read (Some text) = option_map Some (read text)
 
--- what clap's rows tell of an option: `None` where its value is refused, and `Some None` where it
--- is left out and has no default
+-- the value of an option in clap's rows: `None` if it is refused, and `Some None` if the option is
+-- left out and has no default
 abbrev pub given_if : ProgramOption → List Row → Option (Option ℕ)
 given_if option rows = read_or option.default option.read (first_of option.name rows)
 
--- what they tell of an option that has a default
+-- the value of an option that has a default
 abbrev pub given : ProgramOption → List Row → Option ℕ
 given option rows = given_if option rows >>= (λ n. n)
 
--- so many slots leave 16 words of the first segment for blocks, and so many segments of so many
--- words have 128 MB at most
+-- this many slots leave 16 words of the first segment for blocks, and this many segments of this
+-- many words have 128 MB at most
 abbrev pub is_in_order : ℕ → ℕ → ℕ → Bool
 is_in_order words count chains =
     chains % 2 == 0 && (nat_le (chains + 16) words && nat_le (count * words) 16777216)
@@ -112,7 +111,7 @@ abbrev pub cache_with : ℕ → ℕ → ℕ → ℕ → Conf
 cache_with words count chains seconds =
     record { words = count * words; slots = chains; ttl = seconds; segments = count }
 
--- the cache's shape: nothing where a value is out of its form or range, or two do not agree
+-- the cache's shape: nothing if a value is out of its form or range, or two do not agree
 abbrev pub conf_in : List Row → Option Conf
 conf_in rows = do
   words ← given shm_size rows
@@ -125,7 +124,7 @@ conf_in rows = do
 abbrev pub clock_of : ℕ → Clock
 clock_of number = if number == 0 then Line else Request
 
--- what the run is for, on a cache of this shape; every option is read in any run
+-- the task of the run, on a cache of this shape; every option is parsed in any run
 abbrev pub task_in : Conf → List Row → Option Task
 task_in shape rows = do
   seed ← given_if generate rows
@@ -136,8 +135,8 @@ task_in shape rows = do
   drawn ← given map_wanted rows
   task_by shape seed crew each judged (record { bundle = bundle; map = drawn })
 
--- what clap's rows ask for: nothing where they ask for no shape, another value is out of its form
--- or range, or the shape does not suit the task
+-- what clap's rows ask for: nothing if they ask for no shape, another value is out of its form or
+-- range, or the shape does not suit the task
 abbrev pub settings_in : List Row → Option Settings
 settings_in rows = do
   shape ← conf_in rows
@@ -145,7 +144,7 @@ settings_in rows = do
   task ← task_in shape rows
   Some (record { conf = shape; clock = clock_of start; task = task })
 
--- the program's words as texts
+-- the program's arguments as texts
 abbrev pub as_texts : {Z : Type 0} → List (String Z) → List Text
 as_texts = map string_bytes
 
@@ -153,16 +152,16 @@ abbrev pub is_none_of : {A : Type 0} → List A → Bool
 is_none_of [] = true
 is_none_of (x ∷ xs) = false
 
--- there is no word, or clap finds a fault: an unknown or a repeated option, a missing value, a word
--- that is none of an option, a call for help
+-- there is no argument, or clap finds a fault: an unknown or a repeated option, a missing value, a
+-- word that belongs to no option, a request for help
 abbrev pub are_faulty : List Text → Bool
 are_faulty words = is_none_of words || not (is_none_of (fault_of program words))
 
 abbrev pub settings_told : List Text → Option Settings
 settings_told words = if are_faulty words then None else settings_in (matches_of program words)
 
--- what the program is called for; nothing where its words are not in order, or a value is out of
--- its form or range
+-- what the program is called for; nothing if its arguments are invalid, or a value is out of its
+-- form or range
 abbrev pub settings_of : {Z : Type 0} → List (String Z) → Option Settings
 settings_of words = settings_told (as_texts words)
 
@@ -179,7 +178,7 @@ option_of row =
 abbrev pub names_of : List CodeRow → List Text
 names_of rows = map (λ row. row.name.now) rows
 
--- a number that the reader can give
+-- a number that the reader can return
 abbrev pub IsWithin : Reader → ℕ → Type 0
 IsWithin Size n = (n % 2 ≡ 0) × (32 ≤ n) × (n ≤ 16777216)
 IsWithin (Number low high) n = (low ≤ n) × (n ≤ high)

@@ -1,4 +1,4 @@
--- What the program is called for, beside the shape of its cache and its clock.
+-- What the program is called for, besides the shape of its cache and its clock.
 use Rattle.std.specs.Prelude.{◌≡◌, ℕ, ◌≤◌, Bool, true, false, not, ◌&&◌, ◌==◌, nat_le}
 use Rattle.std.specs.Prelude.{if◌then◌else◌, Option, Some, None, is_none, IfSome}
 use Rattle.apcu_model.specs.declared.conf.Conf.{Conf}
@@ -7,8 +7,8 @@ use Rattle.conf_read.specs.declared.task.Task.{Task}
 use Rattle.conf_read.specs.declared.task.Task.TheVariants.{Play, Generate, Verify}
 use Rattle.conf_read.specs.declared.task.Choices.{Choices}
 
--- one segment of at least 8 MB, of which the slots take 32 KB at most: what generated scripts store
--- has room in it
+-- one segment of at least 8 MB, of which the slots take at most 32 KB: what generated scripts store
+-- fits into it
 abbrev pub is_large : Conf → Bool
 is_large conf = conf.segments == 1 && (nat_le 1048576 conf.words && nat_le conf.slots 4096)
 
@@ -16,14 +16,14 @@ is_large conf = conf.segments == 1 && (nat_le 1048576 conf.words && nat_le conf.
 abbrev pub is_plain : Choices → Bool
 is_plain choices = is_none choices.bundle && choices.map == 0
 
--- a task where nothing is against it
+-- a task unless something excludes it
 abbrev pub task_if : Bool → Task → Option Task
 task_if true task = Some task
 task_if false task = None
 
--- A number makes scripts of so many workers with so many calls each; a length tells how many bytes
--- of scripts an output is judged by; without either the input's scripts are played. Of the three
--- one alone is asked for, and what belongs to a play is asked for with no other.
+-- A number makes scripts of this many workers with this many calls each; a length is the number of
+-- bytes of scripts by which an output is judged; without either the input's scripts are played.
+-- Only one of the three is possible, and the options of a play are possible with no other.
 abbrev pub task_by : Conf → Option ℕ → ℕ → ℕ → Option ℕ → Choices → Option Task
 task_by conf None crew each None choices = Some (Play choices.bundle (not (choices.map == 0)))
 task_by conf None crew each (Some scripts) choices = task_if (is_plain choices) (Verify scripts)

@@ -1,4 +1,4 @@
-//! What stands in the program's words, as clap takes them apart.
+//! The program's arguments, as clap parses them.
 
 ghost use Rattle.std.specs.Prelude.{◌≡◌, IfOk, OnOk, IsErrOf, false, true};
 ghost use Rattle.clap.specs.Words.{app_of, rule_of, found_of, rows_of, matches_of};
@@ -19,7 +19,7 @@ fn option<'a>(alloc: Global, name: &'a str) -> Arg<'a>
     Arg::new(alloc, name).long(name)
 }
 
-// A command with these options more.
+// A command with these further options.
 fn with_options<'a>(
     alloc: Global,
     command: Command<'a>,
@@ -41,7 +41,7 @@ fn command<'a>(alloc: Global) -> Result<Command<'a>, AllocError>
     with_options(alloc, Command::new(alloc, "apcu_run"), &OPTIONS)
 }
 
-// What clap finds in the words, where it finds no fault.
+// What clap finds in the arguments, unless it finds a fault.
 pub(crate) fn matches_of<'a>(
     alloc: Global,
     words: &'a [String],

@@ -1,12 +1,12 @@
-//! Why words call for no cache.
+//! Why the arguments are not accepted.
 
 use std::alloc::AllocError;
 use thiserror::Error;
 
-/// Why words call for no cache.
+/// Why the arguments are not accepted.
 #[derive(Clone, Copy, Debug, PartialEq, Eq, Error)]
 pub enum ConfFault {
-    /// The words are not those of this program, or an option's value is out of its range.
+    /// The arguments are not those of this program, or an option's value is out of its range.
     #[error("usage")]
     Usage,
     /// There was no memory to read them.

@@ -1,4 +1,4 @@
-//! What the program's words ask for: its options, read by clap, and their values.
+//! What the program's arguments ask for: its options, parsed by clap, and their values.
 #![tactic(auto)]
 
 mod command;

@@ -6,7 +6,7 @@ ghost use Rattle.conf_read.specs.Numbers.{number_in, unit_of, bytes_in, words_in
 // The most bytes of a segment.
 const MOST_BYTES: u64 = 134_217_728;
 
-// The number that a text writes in at most so many digits, where it is not above another.
+// The number that a text writes in at most this many digits, if it is not above another.
 pub(crate) fn number_in(text: &[u8], most: usize, high: u64) -> Option<u64>
     ensures is { result ≡ number_in most high text.now }
     ensures low { IfSome result (λ n. n ≤ high) }
@@ -21,7 +21,7 @@ pub(crate) fn number_in(text: &[u8], most: usize, high: u64) -> Option<u64>
     if number <= high { Some(number) } else { None }
 }
 
-// How many bytes a letter behind a number stands for; 1 where it is none of a unit.
+// How many bytes a letter after a number stands for; 1 if it is not that of a unit.
 fn unit_of(letter: u8) -> u64
     ensures { result ≡ unit_of letter }
 {
@@ -33,7 +33,7 @@ fn unit_of(letter: u8) -> u64
     }
 }
 
-// The bytes that a size says.
+// The bytes of a size.
 fn bytes_in(text: &[u8]) -> Option<u64>
     ensures is { result ≡ bytes_in text.now }
     ensures few { IfSome result (λ bytes. bytes < 2 ^ 60) }

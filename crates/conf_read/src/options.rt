@@ -17,8 +17,7 @@ pub(crate) enum Reader {
     Number { low: u64, high: u64 },
 }
 
-/// An option: its name, what stands for it where it is left out, if anything does, and how its
-/// value is read.
+/// An option: its name, its default, if there is one, and how its value is read.
 #[derive(Clone, Copy)]
 pub(crate) struct Row {
     pub(crate) name: &'static str,
@@ -70,7 +69,7 @@ pub(crate) const USE_REQUEST_TIME: Row = Row {
     reader: Reader::Number { low: 0, high: 1 },
 };
 
-/// The number from which scripts are made, in place of an input's.
+/// The number from which scripts are made, instead of an input's.
 pub(crate) const GENERATE: Row = Row {
     name: "generate",
     default: None,
@@ -100,7 +99,7 @@ pub(crate) const CALLS: Row = Row {
     },
 };
 
-/// How many bytes of a bundle stand in front of the scripts.
+/// How many bytes of a bundle precede the scripts.
 pub(crate) const PRELOAD: Row = Row {
     name: "preload",
     default: None,
@@ -110,7 +109,7 @@ pub(crate) const PRELOAD: Row = Row {
     },
 };
 
-/// How many bytes of scripts stand in front of an output that is to be judged.
+/// How many bytes of scripts precede an output that is to be judged.
 pub(crate) const VERIFY: Row = Row {
     name: "verify",
     default: None,
@@ -120,7 +119,7 @@ pub(crate) const VERIFY: Row = Row {
     },
 };
 
-/// Whether the map of the cache's words is printed behind a play.
+/// Whether the map of the cache's words is printed after a play.
 pub(crate) const MAP: Row = Row {
     name: "map",
     default: Some(0),
@@ -157,8 +156,8 @@ impl Reader {
     }
 }
 
-// What the words tell of an option: `None` where its value is refused, and `Some(None)` where it
-// is left out and has no default.
+// The value of an option: `None` if it is refused, and `Some(None)` if the option is left out and
+// has no default.
 pub(crate) fn given_if(matches: &ArgMatches<'_>, row: Row) -> Option<Option<u64>>
     requires { IfSome row.default (λ n. IsWithin row.reader n) }
     ensures is { result ≡ given_if (option_of row) (rows_of (found_of matches.now)) }
@@ -170,7 +169,7 @@ pub(crate) fn given_if(matches: &ArgMatches<'_>, row: Row) -> Option<Option<u64>
     }
 }
 
-// What the words tell of an option that has a default.
+// The value of an option that has a default.
 pub(crate) fn given(matches: &ArgMatches<'_>, row: Row) -> Option<u64>
     requires { IfSome row.default (λ n. IsWithin row.reader n) }
     ensures is { result ≡ given (option_of row) (rows_of (found_of matches.now)) }

@@ -1,4 +1,4 @@
-//! What a run is for, by what clap found.
+//! The task of a run, from what clap found.
 
 ghost use Rattle.std.specs.Prelude.{◌≡◌, ◌≤◌, true, IfSome};
 ghost use Rattle.clap.specs.Words.{found_of, rows_of};
@@ -10,15 +10,15 @@ use crate::options::{CALLS, GENERATE, MAP, PRELOAD, VERIFY, WORKERS, given, give
 use apcu_model::Conf;
 use clap::ArgMatches;
 
-/// What a run is for.
+/// The task of a run.
 #[derive(Clone, Copy, Debug, PartialEq, Eq)]
 pub enum Task {
     /// To play the scripts of the input.
     Play {
-        /// How many bytes of a bundle stand in front of the scripts, `--preload`: its values are
-        /// loaded before any script begins. `None` where there is no bundle.
+        /// How many bytes of a bundle precede the scripts, `--preload`: its values are loaded
+        /// before any script begins. `None` if there is no bundle.
         preload: Option<u64>,
-        /// Whether the map of the cache's words is printed behind the journal, `--map`.
+        /// Whether the map of the cache's words is printed after the journal, `--map`.
         map: bool,
     },
     /// To play scripts that are made from a number, and to sum them up; the input is not read.
@@ -30,28 +30,28 @@ pub enum Task {
         /// How many calls each of them makes, `--calls`.
         calls: u32,
     },
-    /// To judge an output of the scripts that stand in front of it; nothing is played.
+    /// To judge an output of the scripts that precede it; nothing is played.
     Verify {
         /// How many bytes of the input are scripts, `--verify`.
         scripts: u64,
     },
 }
 
-// What the words choose of a play: how many bytes of a bundle, and whether a map is printed.
+// The options of a play: how many bytes of a bundle, and whether a map is printed.
 #[derive(Clone, Copy)]
 struct Choices {
     bundle: Option<u64>,
     map: u64,
 }
 
-// Whether they choose neither.
+// Whether neither is used.
 fn is_plain(choices: Choices) -> bool
     ensures { result ≡ is_plain choices }
 {
     choices.bundle.is_none() && choices.map == 0
 }
 
-// Whether generated scripts have room in a cache of this shape.
+// Whether generated scripts fit into a cache of this shape.
 fn is_large(conf: &Conf) -> bool
     ensures is { result ≡ is_large conf.now }
     ensures large { result ≡ true
@@ -60,8 +60,8 @@ fn is_large(conf: &Conf) -> bool
     conf.segments == 1 && conf.words >= 1_048_576 && conf.slots <= 4096
 }
 
-// The task by what stands behind `--generate` and `--verify`, if anything does, the numbers of a
-// generated run, and what is chosen of a play.
+// The task by the values of `--generate` and `--verify`, if they are used, the numbers of a
+// generated run, and the options of a play.
 fn task_by(
     conf: &Conf,
     seed: Option<u64>,
