@@ -5,7 +5,7 @@ use Rattle.apcu_model.specs.declared.request.Event.{Event}
 use Rattle.apcu_model.specs.declared.request.Request.{Request}
 use Rattle.apcu_model.specs.declared.request.Request.TheVariants as request
 
--- the worker w asks r at the moment t, and meets the workers of the mask
+-- the worker w makes the request r at the moment t, with this mask
 abbrev pub event : ℕ → ℕ → Request → ℕ → Event
 event w t r mask = record { worker = w; t = t; request = r; mask = mask }
 
@@ -18,7 +18,7 @@ abbrev pub events_of : ℕ → List Event → List Event
 events_of w [] = []
 events_of w (e ∷ es) = cond (e.worker == w) (e ∷ events_of w es) (events_of w es)
 
--- whether the last event of the worker w is a fetch; where it has none, the answer is `before`
+-- whether the last event of the worker w is a fetch; if it has none, `before`
 abbrev pub fetched_last : ℕ → List Event → Bool → Bool
 fetched_last w [] before = before
 fetched_last w (e ∷ es) before =

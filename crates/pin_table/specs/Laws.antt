@@ -1,4 +1,4 @@
--- The laws of this crate, as records that callers hand on.
+-- The laws of this crate, as records that callers pass on.
 use Rattle.apcu_model.specs.declared.request.Event.{Event}
 use Rattle.pin_table.specs.Events.{events_of, fetched_last, is_fetch}
 use Rattle.pin_table.specs.Order.{Carried}
@@ -10,7 +10,7 @@ use Rattle.std.specs.Prelude.{Bool, List, [], cond, true, ℕ, ◌++◌, ◌<◌
 use lib.ListN.{get_elem?}
 use mathlib.Core.Option.{some}
 
--- what follows from the words of the rule
+-- what follows from the definitions of the rule
 pub record RuleLaws : Type 0 where
   pub carried : (words : List ℕ) (views : List View) → Carried words views → Rule words views
   pub named : (windows : List ℕ) (v at : ℕ) → get_elem? windows v ≡ some at → 0 < at

@@ -47,26 +47,27 @@ pub record PassInOrder (b : EventLog) (place : ℕ → ℕ) (k : ℕ) (p : Known
   pub away : is_in_hand p.worker b.hand ≡ false
   pub open_yet : has_worker p.worker b.closed ≡ false
 
--- The writer's state is in order, where the worker v copies from the block (slice_index copying v)
--- just now, if it is not 0.
+-- The writer's state is in order, if the worker v copies from the block (slice_index copying v)
+-- now, unless that is 0.
 pub record StateInOrder (d : WriterState) (copying : List ℕ) : Type 0 where
   pub log : LogInOrder d.log
   pub few : length copying ≤ MOST_WORKERS
   pub seats : length d.windows ≡ length copying
   pub all_seats : length d.log.budgets ≡ length copying
-  -- who copies from a block has its window on it
+  -- a worker that copies from a block has its window on it
   pub pins : (v at : ℕ) → get_elem? copying v ≡ some at → 0 < at → get_elem? d.windows v ≡ some at
-  -- a window is open from a fetch until its worker comes into the hand or is taken in
+  -- a window is open from a fetch until its worker's pass is taken again
   pub fetched : (v at : ℕ) → get_elem? d.windows v ≡ some at → 0 < at
       → (is_in_hand v d.log.hand ≡ false) × (has_worker v d.log.closed ≡ false)
       × (fetched_last v d.log.history false ≡ true)
   pub stand : (j at : ℕ) → get_elem? (named_blocks d) j ≡ some at → 0 < at → IsBlock d.words at
   pub apart : (j k a b : ℕ) → get_elem? (named_blocks d) j ≡ some a
       → get_elem? (named_blocks d) k ≡ some b → 0 < a → 0 < b → AreApart d.words a b
-  -- no window names a block at which this event found nobody
+  -- no window names a block on which this event's probes found no worker
   pub unread : (v at : ℕ) → get_elem? d.windows v ≡ some at → 0 < at
       → has at (freed_in d.readings) ≡ false
-  -- the workers met have their windows on blocks at which this event found somebody
+  -- the workers of the mask have their windows on blocks on which this event's probes found a
+  -- worker
   pub masked : (v : ℕ) → bit_at d.mask v ≡ 1
       → (at : ℕ) × (get_elem? d.windows v ≡ some at) × (0 < at)
       × (has at (refused_in d.readings) ≡ true)
@@ -74,13 +75,13 @@ pub record StateInOrder (d : WriterState) (copying : List ℕ) : Type 0 where
   pub shrunk : (p : Known) → d.log.hand ≡ Some p
       → (v at : ℕ) → get_elem? d.windows v ≡ some at → 0 < at → get_elem? d.begun v ≡ some at
 
--- One fetch is the last event that a worker has seen, and the last that it made. Who copies has
--- seen the history as the event left it that pinned its block, so this is that event.
+-- One fetch is the last event that a worker has seen, and the last that it made. A worker that
+-- copies has seen the history as the event left it that pinned its block, so this is that event.
 abbrev pub EndsByItsPin : Known → Type 0
 EndsByItsPin p = (e : Event) × (is_fetch e.request ≡ true)
     × (last_or None p.seen ≡ Some e) × (last_or None p.own ≡ Some e)
 
--- what a worker knows that copies is in order
+-- what a worker that copies knows is in order
 pub record ReaderInOrder (d : WriterState) (copying : List ℕ) (c : Reader) : Type 0 where
   pub some_block : 0 < c.block
   pub copies : get_elem? copying c.known.worker ≡ some c.block
@@ -112,5 +113,5 @@ pub record Carried (words : List ℕ) (views : List View) : Type 0 where
   pub copy : (k : ℕ) (c : Reader) → get_elem? views k ≡ some (Copying c)
       → PassInOrder state.log place k c.known × ReaderInOrder state copying c
   pub placed : AllPlaced state.log place views
-  -- who copies, by the workers and by the views
+  -- which workers copy, by the workers and by the views
   pub copies : (i : ℕ) → pins_on i copying ≡ pins_on i (copied_blocks views)

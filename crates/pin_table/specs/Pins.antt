@@ -19,13 +19,13 @@ abbrev pub content_of : List ℕ → ℕ → List ℕ
 content_of words at =
     take (slice_index words (at + IMAGE_LENGTH)) (drop (image_place words at) words)
 
--- a block stands at `at` and lies inside these words, and nobody copies from it so far
+-- a block is at `at` and lies inside these words, and no worker copies from it so far
 pub record IsBlock (words : List ℕ) (at : ℕ) : Type 0 where
   pub positive : 0 < at
   pub zero_count : slice_index words (at + PIN_COUNT) ≡ 0
   pub inside : image_end words at ≤ length words
 
--- two blocks are one, or have no word in common
+-- two blocks are the same, or have no word in common
 abbrev pub AreApart : List ℕ → ℕ → ℕ → Type 0
 AreApart words a b = (a ≡ b) ⊎ ((image_end words a ≤ b) ⊎ (image_end words b ≤ a))
 
@@ -33,8 +33,7 @@ AreApart words a b = (a ≡ b) ⊎ ((image_end words a ≤ b) ⊎ (image_end wor
 abbrev pub MeetsNone : List ℕ → List ℕ → ℕ → Type 0
 MeetsNone words windows at = (b : ℕ) → is_named windows b ≡ true → AreApart words at b
 
--- The block at `at` may be pinned. Where a window names it, the writer has 0 as its pin count
--- anyway.
+-- The block at `at` may be pinned. If a window names it, the writer has 0 as its pin count anyway.
 pub record MayPin (words windows : List ℕ) (at : ℕ) : Type 0 where
   pub positive : 0 < at
   pub count : is_named windows at ≡ false → slice_index words (at + PIN_COUNT) ≡ 0

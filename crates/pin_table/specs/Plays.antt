@@ -1,5 +1,5 @@
--- What each kind of step tells the seat that makes it: `v` and `w` are the seat before and after,
--- and `n` is the number that the step found in its word.
+-- What the seat learns from each kind of step that it makes: `v` and `w` are the seat before and
+-- after, and `n` is the number that the step found in its word.
 use Rattle.std.specs.Prelude.{◌≡◌, ℕ, ◌-◌, ◌==◌, true, false, MatchBool, List, slice_index}
 use Rattle.std.specs.Prelude.{slice_set}
 use Rattle.atomic_table.specs.Table.{Me, Step}

@@ -1,8 +1,8 @@
 -- The rule over the shared words. Many workers load and store them in single steps, and the rule
--- holds before and after each step of any of them, whatever the others do. It speaks of the words,
--- and of one view for each seat: what the thread with that seat knows. A view is that of the writer
+-- holds before and after each step of any of them, whatever the others do. It is about the words
+-- and one view for each seat: what the thread with that seat knows. A view is that of the writer
 -- (the seat 0, behind the lock), of an idle pass, of a pass that copies from a block, or nothing. A
--- block is named where a window of the writer has its place, or the writer is just pinning it.
+-- block is named if a window of the writer has its place, or the writer is just pinning it.
 use Rattle.std.specs.Prelude.{◌≡◌, ℕ, ◌+◌, ◌<◌, ◌≤◌, true, false, List, [], ◌∷◌, length}
 use Rattle.std.specs.Prelude.{slice_index, Some}
 use mathlib.Core.Option.{some}
@@ -23,8 +23,8 @@ use Rattle.pin_table.specs.Views.{is_in_hand, has_worker, known_of, named_blocks
 use Rattle.pin_table.specs.Views.{copied_blocks}
 use Rattle.pin_table.specs.Order.{Fits, EndsByItsPin, AllPlaced, Carried}
 
--- First: each word but the pin counts is the writer's word there, and the writer has 0 at the pin
--- counts.
+-- First: each word except the pin counts is the writer's word there, and the writer has 0 at the
+-- pin counts.
 pub record WordsAreWriters (words : List ℕ) (d : WriterState) : Type 0 where
   pub count : length words ≡ length d.words
   pub same : (i : ℕ) → IsTold (named_blocks d) i → slice_index words i ≡ slice_index d.words i
@@ -48,7 +48,7 @@ pub record PassesAreOne (views : List View) (d : WriterState) (place : ℕ → �
 
 -- Third: what a pass has seen is a beginning of the writer's history, its own events are all of its
 -- worker's events there and in the whole history, and with those left they are the worker's budget.
--- Nobody has more events than its budget.
+-- No worker has more events than its budget.
 pub record HistoriesAgree (views : List View) (d : WriterState) : Type 0 where
   pub passes : (w k : ℕ) (v : View) → get_elem? views k ≡ some v → carries w v ≡ true
       → Fits d.log (known_of v)
@@ -56,9 +56,9 @@ pub record HistoriesAgree (views : List View) (d : WriterState) : Type 0 where
   pub bounded : (w : ℕ) → w < d.log.made
       → length (events_of w d.log.history) ≤ slice_index d.log.budgets w
 
--- Fourth: a worker has a window only where it is not in the writer's hand and its last event is a
--- fetch. Who copies has its window on the block, knows the words of the image as the writer has
--- them, and has seen and made nothing since the fetch that pinned the block.
+-- Fourth: a worker has a window only if it is not in the writer's hand and its last event is a
+-- fetch. A worker that copies has its window on the block, knows the words of the image as the
+-- writer has them, and has seen and made nothing since the fetch that pinned the block.
 pub record WindowsAreFetches (views : List View) (d : WriterState) : Type 0 where
   pub windows : (w at : ℕ) → get_elem? d.windows w ≡ some at → 0 < at
       → (is_in_hand w d.log.hand ≡ false) × (fetched_last w d.log.history false ≡ true)
@@ -82,8 +82,8 @@ pub record ReadingsCloseWindows (d : WriterState) : Type 0 where
   pub closed : (w at : ℕ) → get_elem? d.windows w ≡ some at → 0 < at
       → has at (freed_in d.readings) ≡ false
 
--- Seventh: any two blocks that are named are one or have no word in common, and lie inside the
--- table. Who copies reads the image that the writer's words give for its block.
+-- Seventh: any two blocks that are named are the same or have no word in common, and lie inside the
+-- table. A worker that copies reads the image that the writer's words have for its block.
 pub record BlocksAreApart (views : List View) (d : WriterState) : Type 0 where
   pub apart : (a b : ℕ) → is_named (named_blocks d) a ≡ true → is_named (named_blocks d) b ≡ true
       → AreApart d.words a b

@@ -13,7 +13,7 @@ use Rattle.pin_table.specs.declared.views.View.TheVariants.{Writer, Idle, Copyin
 use Rattle.pin_table.specs.declared.views.Start.{Start}
 use Rattle.pin_table.specs.Pins.{content_of, refused_in}
 
--- what stands for a view that is none of the kind that is asked for
+-- a default for a view that is of another kind
 abbrev pub nobody : Known
 nobody = record { worker = 0; left = 0; seen = []; own = [] }
 
@@ -91,7 +91,7 @@ with_newcomer b = record {
   closed = b.closed;
 }
 
--- a pass comes into the writer's hand, or leaves it
+-- a pass is taken by the writer, or returned
 abbrev pub with_hand : EventLog → Option Known → EventLog
 with_hand b h = record {
   history = b.history;
@@ -143,7 +143,7 @@ with_closed b p = record {
 abbrev pub named_blocks : WriterState → List ℕ
 named_blocks d = d.pinning ∷ d.windows
 
--- what the trait of words sees beside the words
+-- what the trait of words sees besides the words
 abbrev pub aside_of : WriterState → Aside
 aside_of d = record { windows = d.windows; mask = d.mask; refused = refused_in d.readings }
 
@@ -169,7 +169,7 @@ with_log d b = record {
   pinning = d.pinning;
 }
 
--- the worker in the hand leaves it, and what its event met is forgotten
+-- the worker in the hand leaves it, and what its event's probes found is forgotten
 abbrev pub rested : WriterState → EventLog → WriterState
 rested d b = record {
   words = d.words;
@@ -181,7 +181,7 @@ rested d b = record {
   pinning = d.pinning;
 }
 
--- a pass comes into the hand, and its window closes
+-- a pass is taken, and its window closes
 abbrev pub taken_in : WriterState → Known → WriterState
 taken_in d p = record {
   words = d.words;
@@ -193,7 +193,7 @@ taken_in d p = record {
   pinning = d.pinning;
 }
 
--- a load found that nobody copies the block at `at`, or that n workers do
+-- a load found that no worker copies the block at `at`, or that n workers do
 abbrev pub freed : WriterState → ℕ → WriterState
 freed d at = record {
   words = d.words;

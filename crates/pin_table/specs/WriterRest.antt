@@ -1,4 +1,4 @@
--- What a writer has beside its words, its windows and what its event met.
+-- What a writer has besides its words, its windows and what its event's probes found.
 use Rattle.std.specs.Prelude.{[]}
 use Rattle.pin_table.specs.declared.writer.WriterRest.{WriterRest}
 use Rattle.pin_table.specs.declared.writer.Writer.{Writer}

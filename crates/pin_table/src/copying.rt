@@ -1,4 +1,4 @@
-//! What a worker has that copies from a pinned block.
+//! A worker's copy from a pinned block.
 
 ghost use Rattle.std.specs.Prelude.{◌≡◌, ℕ, ◌+◌, ◌-◌, ◌<◌, ◌≤◌, length, slice_index};
 
@@ -10,8 +10,8 @@ use atomic_table::Seat;
 use seg_words::PIN_COUNT;
 use std::marker::Model;
 
-/// What a worker has that copies from a pinned block. Nothing of the block's value changes until it
-/// is released; one that is dropped keeps its block for good.
+/// A worker's copy from a pinned block. The block's value does not change until it is released; if
+/// this is dropped, the block stays pinned for good.
 ///
 /// Contracts see the table and what the worker knows: what a pass knows, the block, and the words
 /// of the value's image as they were at the pin.
@@ -91,7 +91,7 @@ impl Copying {
     }
 
     // The eight words of the image from the word `i` on, as they were at the pin. The place where
-    // the image begins is handed in, so that it is not looked for at each of them.
+    // the image begins is passed in, so that it is not looked up at each of them.
     pub(crate) fn eight(&mut self, table: &PinTable, first: u32, i: u32) -> [u64; 8]
         requires table { self.old.table ≡ table.now }
         requires first { first ≡ self.old.copy.first }
@@ -113,7 +113,7 @@ impl Copying {
         ]
     }
 
-    /// Ends the copy: the block may be given out again, and the worker has its pass back.
+    /// Ends the copy: the block may be reused, and the worker gets its pass back.
     pub fn release(self, table: &PinTable) -> Pass
         requires table { self.table ≡ table.now }
         ensures table { result.table ≡ self.table }

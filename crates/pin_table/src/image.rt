@@ -6,7 +6,7 @@ use crate::copying::Copying;
 use crate::table::PinTable;
 use seg_words::WordsIn;
 
-/// What an image keeps beside its words. No value of it is made.
+/// What an image keeps besides its words. No value of it is made.
 pub struct Lent {
     pub name: u64,
     pub copying: Copying,
@@ -16,7 +16,8 @@ pub struct Lent {
 pub struct Image<'a> {
     pub table: &'a PinTable,
     pub copying: &'a mut Copying,
-    /// The place of its first word, kept here since it would be read anew at each load.
+    /// The place of its first word, kept here because it would otherwise be read again at each
+    /// load.
     pub first: u32,
     ghost same_table: { copying.now.table ≡ table.now },
     ghost same_place: { first ≡ copying.now.copy.first },
@@ -24,7 +25,7 @@ pub struct Image<'a> {
 }
 
 impl Copying {
-    /// Lends the words of the image, for one that reads values out of words.
+    /// Lends the words of the image, for a caller that reads values from words.
     pub fn image<'a>(&'a mut self, table: &'a PinTable) -> Image<'a>
         requires { self.old.table ≡ table.now }
         ensures same_reference { result.copying.ghost_name ≡ self.entry.ghost_name }

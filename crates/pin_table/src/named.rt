@@ -2,7 +2,7 @@
 
 use std::marker::Brand;
 
-/// The name of one shared table, as a type, so that what stands behind a lock is known by its type.
+/// The name of one shared table, as a type, so that the type says what is behind a lock.
 ///
 /// It has no functions. Its members exist in contracts alone: which table it is, the cache's
 /// configuration, and how many events each worker may make. `std::marker::Brand` is such a name:
@@ -20,7 +20,7 @@ pub trait TableName {
     ghost budgets: { List ℕ };
 }
 
-// Who calls a function over a name picks the members at the call.
+// The caller of a function over a name picks the members at the call.
 impl TableName for Brand {
     ghost use Rattle.std.specs.Prelude.{[]};
     ghost use Rattle.pin_table.specs.Names.{no_table, no_conf};

@@ -7,8 +7,8 @@ use crate::views::View;
 use atomic_table::Seat;
 use std::marker::Model;
 
-/// What a worker has that copies nothing: the right to its next events. Where one is dropped, the
-/// worker never ends, and the table is never closed.
+/// The right of a worker that copies nothing to its next events. If it is dropped, the worker never
+/// ends, and the table is never closed.
 ///
 /// Contracts see the table, the worker, how many events are left, the history that the worker has
 /// seen and its own events in it.
@@ -51,8 +51,8 @@ impl Pass {
     }
 }
 
-/// What a worker leaves that has ended: its last event is its end. It copies nothing, and makes no
-/// further event.
+/// What is left of a worker that has ended: its last event is its end. It copies nothing, and makes
+/// no further event.
 #[derive(Drop)]
 pub struct Ended {
     pub(crate) pass: Pass,

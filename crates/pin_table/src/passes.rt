@@ -1,4 +1,4 @@
-//! The passes that workers begin with, and what they leave once they have ended.
+//! The passes that workers begin with, and what is left of those that have ended.
 
 ghost use Rattle.std.specs.Prelude.{◌≡◌, ℕ, ◌+◌, ◌<◌, ◌≤◌, true, false, List, [], ◌∷◌, ◌++◌};
 ghost use Rattle.std.specs.Prelude.{length, slice_get, Some, None, IfOk, IfSome};
@@ -42,8 +42,8 @@ impl Passes {
     }
 }
 
-/// What the workers leave that have ended, with room for the others. Contracts see the list and how
-/// many more it has room for.
+/// What is left of the workers that have ended, with room for the others. Contracts see the list
+/// and how many more it has room for.
 #[derive(Drop)]
 pub struct EndedList {
     list: Vec<Ended>,
@@ -60,7 +60,7 @@ impl Model for EndedList {
 }
 
 impl EndedList {
-    /// Adds one at the end. It takes no memory: there is room for every worker of the table.
+    /// Adds one at the end. It allocates no memory: there is room for every worker of the table.
     pub fn push(&mut self, ended: Ended)
         requires { 0 < self.old.room }
         ensures ended { self.new.ended ≡ self.old.ended ++ ended ∷ [] }
@@ -101,7 +101,7 @@ impl PinTable {
     /// Shares these words among as many workers as there are budgets: how many events each may
     /// make.
     ///
-    /// It takes all the memory that any call of this crate needs. After an `Err` the words are
+    /// It allocates all the memory that any call of this crate needs. After an `Err` the words are
     /// dropped.
     pub fn new(
         alloc: Global,
@@ -131,8 +131,8 @@ impl PinTable {
         Ok((table, seat, Passes { list }, EndedList { list: ended }))
     }
 
-    /// Tells that the writer's history begins with what a worker has seen that has ended. Nothing
-    /// changes, since its window is closed and no event is under way.
+    /// Establishes that the writer's history begins with what a worker that has ended has seen.
+    /// Nothing changes, since its window is closed and no event is in progress.
     #[tactic(auto, using(crate::proofs::LearnFacts::of_learn))]
     pub fn learn(&self, seat: &mut WriterSeat, ended: Ended) -> Ended
         requires table { seat.old.table ≡ self.now }
@@ -155,7 +155,7 @@ impl PinTable {
         Ended { pass }
     }
 
-    /// Gives the words back, once every worker has ended. It takes no memory.
+    /// Returns the words, after every worker has ended. It allocates no memory.
     pub fn close(self, mut seat: WriterSeat, ended: EndedList) -> VecWords
         requires table { seat.table ≡ self }
         requires ended { AllOf self ended.ended }
@@ -176,8 +176,8 @@ impl PinTable {
         VecWords::from_words(self.dissolve(seat))
     }
 
-    /// Ends the table as `close` does, but without its words: they are dropped where they are, and
-    /// none is copied.
+    /// Ends the table as `close` does, but without its words: they are dropped in place, and none
+    /// is copied.
     pub fn end(self, mut seat: WriterSeat, ended: EndedList)
         requires table { seat.table ≡ self }
         requires ended { AllOf self ended.ended }

@@ -17,7 +17,7 @@ impl TableRule<u64, View, Start> for SharedWords {
     ghost first = { first_view };
 }
 
-// The writer looks at its own state.
+// The writer reads its own state.
 pub struct Look;
 
 impl Play<u64, View> for Look {
@@ -62,7 +62,7 @@ impl Play<u64, View> for Pin {
     ghost then = { Pins };
 }
 
-// Who copies loads a word of its image.
+// A worker that copies loads a word of its image.
 pub struct CopyRead;
 
 impl Play<u64, View> for CopyRead {
@@ -71,7 +71,7 @@ impl Play<u64, View> for CopyRead {
     ghost then = { Copies };
 }
 
-// Who copies takes one from the pin count.
+// A worker that copies takes one from the pin count.
 pub struct Release;
 
 impl Play<u64, View> for Release {
@@ -91,7 +91,7 @@ impl Split<View> for Make {
     ghost right = { from_log newcomer };
 }
 
-// A pass comes into the writer's hand.
+// A pass is taken by the writer.
 pub struct Take;
 
 impl Join<View> for Take {
@@ -129,7 +129,7 @@ impl Saying for Brand {
     ghost event = { event 0 0 Retire 0 };
 }
 
-// The worker in the hand makes its event, and has its pass again.
+// The worker in the hand makes its event, and gets its pass back.
 pub struct Give<Q> {
     of: PhantomData<Q>,
 }
@@ -142,7 +142,7 @@ impl<Q: Saying> Split<View> for Give<Q> {
     ghost right = { from_log (λ b. known_after b Q.event) };
 }
 
-// The pass goes back as it was.
+// The pass is returned as it was.
 pub struct GiveBack;
 
 impl Split<View> for GiveBack {
@@ -154,7 +154,7 @@ impl Split<View> for GiveBack {
     ghost right = { from_log (λ b. in_hand b.hand) };
 }
 
-// The pass goes back, and has seen all.
+// The pass is returned, and has seen all.
 pub struct GiveSeen;
 
 impl Split<View> for GiveSeen {

@@ -33,7 +33,7 @@ use std::marker::Model;
 /// Contracts see the table's name, which its seat and its passes carry as well.
 pub struct PinTable {
     pub(crate) table: Table<u64, View, Start, SharedWords, Global>,
-    // The memory in which the words are handed back at the end.
+    // The memory in which the words are returned at the end.
     row: Vec<u64>,
 }
 
@@ -60,10 +60,10 @@ impl Model for PinTable {
         × (length t.row.items ≡ t.table.shared.table_id.words) };
 }
 
-/// The right to write: what stands behind the cache's lock.
+/// The right to write: what the cache's lock guards.
 ///
 /// Contracts see the table and the writer's state: the words as it knows them, the history of
-/// events, the windows, and what the event under way has met.
+/// events, the windows, and what the probes of the current event have found.
 #[derive(Drop)]
 pub struct WriterSeat {
     seat: Seat<u64, View>,
@@ -147,7 +147,7 @@ fn copy_back(closed: &Closed<u64, Global>, row: &mut Vec<u64>)
 }
 
 impl WriterSeat {
-    // The workers met in the event under way.
+    // The mask of the current event.
     pub(crate) fn mask(&self) -> u64
         ensures { result ≡ self.now.state.mask }
     {
@@ -185,7 +185,7 @@ impl PinTable {
         ))
     }
 
-    /// How many words there are.
+    /// The number of words.
     pub fn len(&self) -> u32
         ensures { result ≡ self.now.words }
     {
@@ -216,7 +216,7 @@ impl PinTable {
         Pass { seat, worker, left }
     }
 
-    // A pass comes into the writer's hand.
+    // A pass is taken by the writer.
     pub(crate) fn take(&self, seat: &mut WriterSeat, pass: Pass)
         requires table { seat.old.table ≡ self.now }
         requires pass { pass.table ≡ self.now }

@@ -12,9 +12,8 @@ pub struct Known {
     pub own: LinkedList<Event>,
 }
 
-/// What the writer knows of the workers: all events so far, the pass that is in its hand during an
-/// event, how many workers were made, how many events each may make, and the passes taken in at the
-/// end.
+/// What the writer knows of the workers: all events so far, the pass that it holds during an event,
+/// how many workers were made, how many events each may make, and the passes taken in at the end.
 pub struct EventLog {
     pub history: LinkedList<Event>,
     pub hand: Option<Known>,
@@ -23,7 +22,7 @@ pub struct EventLog {
     pub closed: LinkedList<Known>,
 }
 
-/// What a worker knows that copies from a pinned block: the block's place, that of the value's
+/// What a worker that copies from a pinned block knows: the block's place, that of the value's
 /// image, and the words of the image as they were at the pin.
 pub struct Reader {
     pub known: Known,
@@ -37,11 +36,11 @@ pub struct WriterState {
     /// The words, with 0 at each pin count.
     pub words: LinkedList<u64>,
     pub log: EventLog,
-    /// For each worker the block that it may still copy from.
+    /// For each worker the block from which it may still copy.
     pub windows: LinkedList<u64>,
-    /// The windows as the event under way began with them.
+    /// The windows when the current event began.
     pub begun: LinkedList<u64>,
-    /// The workers that this event has met, a bit each.
+    /// The workers that this event's probes have found, a bit each.
     pub mask: u64,
     /// The probes of this event: the block, and the pin count that a load found there.
     pub readings: LinkedList<(u64, u64)>,
@@ -54,11 +53,11 @@ pub enum View {
     Writer(WriterState),
     Idle(Known),
     Copying(Reader),
-    /// A pass that the writer has taken: nothing is said of it.
+    /// A pass that the writer has taken: nothing is known of it.
     Spent,
 }
 
-/// What the table is told when it is made.
+/// The arguments with which the table is made.
 #[derive(Drop)]
 pub struct Start {
     pub words: Vec<u64>,

@@ -23,7 +23,8 @@ use apcu_model::Ask;
 use seg_words::{HEAD_WORDS, IMAGE_LENGTH, KEY_LENGTH, Segment, WordsIn};
 use std::marker::Brand;
 
-/// All that a writer has beside its words and what its event met. No value of it is made.
+/// All that a writer has besides its words and what its event's probes found. No value of it is
+/// made.
 pub struct WriterRest {
     pub name: u64,
     pub worker: u32,
@@ -84,7 +85,7 @@ impl Segment for Writer<'_> {
         self.seat.mask()
     }
 
-    // The answer is what one load of the pin count tells, and the event keeps that reading.
+    // The result is that of one load of the pin count, and the event keeps that reading.
     fn probe(&mut self, at: u32) -> bool
         requires block { MayProbe self.old.seat.now.state.words self.old.seat.now.state.windows at }
         requires unrefused { has at (aside_of self.old.seat.now.state).refused ≡ false }
@@ -103,8 +104,8 @@ impl Segment for Writer<'_> {
 }
 
 impl PinTable {
-    /// Begins an event: the pass comes into the writer's hand, its worker's window closes, and
-    /// nothing is met yet.
+    /// Begins an event: the writer takes the pass, its worker's window closes, and the mask is
+    /// empty.
     pub fn writer<'a>(&'a self, seat: &'a mut WriterSeat, pass: Pass) -> Writer<'a>
         requires table { seat.old.table ≡ self.now }
         requires pass { pass.table ≡ self.now }
@@ -137,7 +138,7 @@ impl PinTable {
 
 impl Writer<'_> {
     /// Ends the event: it becomes the last of the history, with the mask that its probes gathered.
-    /// The pass that comes back has seen it, and has one event less left.
+    /// The returned pass has seen it, and has one event less left.
     pub fn give_pass(self, ask: Ask<'_>, t: u64) -> Pass
         requires hand { self.seat.now.state.log.hand ≡ Some (in_hand self.seat.now.state.log.hand) }
         requires worker { (in_hand self.seat.now.state.log.hand).worker ≡ self.worker }
@@ -183,7 +184,7 @@ impl Writer<'_> {
         Ended::of(self.give_pass(Ask::Retire, 0))
     }
 
-    /// There was no event: the history stays, and the pass is as it was when it was taken.
+    /// There was no event: the history is unchanged, and the pass is as it was when it was taken.
     pub fn give_back(self) -> Pass
         requires hand { self.seat.now.state.log.hand ≡ Some (in_hand self.seat.now.state.log.hand) }
         requires worker { (in_hand self.seat.now.state.log.hand).worker ≡ self.worker }
@@ -203,8 +204,7 @@ impl Writer<'_> {
         table.give_back(seat, worker, left)
     }
 
-    /// There was no event, as with `give_back`, but the pass that comes back has seen the whole
-    /// history.
+    /// There was no event, as with `give_back`, but the returned pass has seen the whole history.
     pub fn give_seen(self) -> Pass
         requires hand { self.seat.now.state.log.hand ≡ Some (in_hand self.seat.now.state.log.hand) }
         requires worker { (in_hand self.seat.now.state.log.hand).worker ≡ self.worker }
@@ -269,7 +269,7 @@ impl Writer<'_> {
     }
 }
 
-// Here the event is picked: what was asked, lent as it is, is a request in contracts alone.
+// Here the event is picked: a borrowed request is a request in contracts only.
 fn give_as<Q: Saying>(
     table: &PinTable,
     seat: &mut WriterSeat,
