@@ -1,4 +1,4 @@
--- Pools' names and keys, and under which keys of the cache a pool keeps what it has.
+-- Pools' names and keys, and the keys of the cache under which a pool keeps its values.
 use Rattle.std.specs.Prelude.{ℕ, ◌==◌, ◌&&◌, ◌||◌, not, nat_le, Bool, false, List, []}
 use Rattle.std.specs.Prelude.{◌∷◌, ◌++◌, length, chars, encode_utf8_all}
 use Rattle.std.specs.List.{list_all}
@@ -29,14 +29,14 @@ is_good_key key =
 abbrev pub braced : List ℕ → List ℕ
 braced name = 123 ∷ (name ++ 125 ∷ [])
 
--- under which key of the cache a pool keeps its key
+-- the key of the cache under which a pool keeps its key
 abbrev pub pool_key : List ℕ → List ℕ → List ℕ
 pool_key name key = braced name ++ key
 
--- what a search for a text as it stands is written as
+-- the pattern that matches a text literally
 abbrev pub escaped : List ℕ → List ℕ
 escaped text = encode_utf8_all (escaped_text (chars text))
 
--- the pattern by which a pool's keys are found: its name in braces, as it stands
+-- the pattern by which a pool's keys are found: its name in braces, literally
 abbrev pub pattern_of : List ℕ → Pattern
 pattern_of name = record { text = escaped (braced name); fold = false }

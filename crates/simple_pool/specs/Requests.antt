@@ -1,4 +1,4 @@
--- What a call on a pool asks of the cache.
+-- The requests of a call on a pool to the cache.
 use Rattle.std.specs.Prelude.{◌≡◌, ℕ, ℤ, pos, Bool, true, false, ◌&&◌, if◌then◌else◌, List, []}
 use Rattle.std.specs.Prelude.{◌∷◌, length, map, Option, Some, None, slice_get, nat_abs}
 use Rattle.std.specs.Prelude.{int_le, int_lt}
@@ -14,21 +14,21 @@ use Rattle.simple_pool.specs.declared.call.PoolAsk.TheVariants.{GetMany, SetMany
 use Rattle.simple_pool.specs.declared.call.PoolAsk.TheVariants.{DeleteMany, Has}
 use Rattle.simple_pool.specs.Names.{is_good_name, is_good_key, pool_key, pattern_of}
 
--- how many keys a step of clearing takes at least
+-- the least number of keys of a step of clearing
 abbrev pub pool_step : ℕ
 pool_step = 100
 
--- the value is kept for so many seconds, or for ever where they are 0
+-- the value is kept for this many seconds, or without a time limit if they are 0
 abbrev pub store_of : List ℕ → List ℕ × List Kind → ℕ → Request
 store_of pool pair ttl = asks.Store (pool_key pool pair.0) pair.1 ttl false
 
--- for a time that is not positive it is not kept
+-- with a time that is not positive it is not kept
 abbrev pub set_of : List ℕ → List ℕ × List Kind → ℤ → Request
 set_of pool pair ttl =
     if int_lt (pos 0) ttl then store_of pool pair (nat_abs ttl)
     else asks.Delete (pool_key pool pair.0)
 
--- How a call asks: one request after the other, or for `Clear` step by step.
+-- The requests of a call: one after the other, or for `Clear` step by step.
 pub data PoolAsking : Type 0 where
   Each : List Request → PoolAsking
   Steps : (ℕ → Request) → PoolAsking
@@ -47,7 +47,7 @@ pool_asking pool (DeleteMany keys) =
     Each (map (λ key. asks.Delete (pool_key pool key)) keys)
 pool_asking pool (Has key) = Each (asks.Exists (pool_key pool key) ∷ [])
 
--- the request of event i, where there is one; of steps, that from slot i on
+-- the request of event i, if there is one; of steps, that from slot i on
 abbrev pub asked_at : PoolAsking → ℕ → Option Request
 asked_at (Each requests) i = slice_get requests i
 asked_at (Steps ask) i = Some (ask i)
@@ -55,12 +55,12 @@ asked_at (Steps ask) i = Some (ask i)
 abbrev pub request_at : PoolCall → ℕ → Option Request
 request_at call i = asked_at (pool_asking call.pool call.ask) i
 
--- the pattern of what a call goes over
+-- the pattern of a call's walk
 abbrev pub ask_pattern : List ℕ → PoolAsk → Option Pattern
 ask_pattern pool Clear = Some (pattern_of pool)
 ask_pattern pool _ = None
 
--- a time to live in seconds that a row can have, or one that is over
+-- a time to live in seconds that a row can have, or one that has expired
 abbrev pub is_good_ttl : ℤ → Bool
 is_good_ttl ttl = int_le ttl (pos 4294967295)
 
@@ -87,8 +87,8 @@ pub record IsGoodCall (call : PoolCall) : Type 0 where
   pub named : is_good_name call.pool ≡ true
   pub asks_well : is_good_ask call.ask ≡ true
 
--- how many events a call makes at most, in a cache of so many slots: each step of clearing takes a
--- slot at least
+-- the largest number of a call's events, in a cache of this many slots: each step of clearing takes
+-- at least one slot
 abbrev pub pool_bound : ℕ → PoolAsk → ℕ
 pool_bound slots (Get key default) = 1
 pool_bound slots (Set key value ttl) = 1

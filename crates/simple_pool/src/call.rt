@@ -17,14 +17,14 @@ pub struct PoolCall {
     pub ask: PoolAsk,
 }
 
-/// What is asked of a pool. Times to live are in seconds.
+/// The request of a call on a pool. Times to live are in seconds.
 #[derive(Drop)]
 pub enum PoolAsk {
     /// The value of a key, or else the default.
     Get(Bytes, Graph),
-    /// A value is set, for a time to live: where that is not positive, the key is deleted.
+    /// A value is set, with a time to live: if that is not positive, the key is deleted.
     Set(Bytes, Graph, i64),
-    /// A value is set for ever.
+    /// A value is set without a time limit.
     SetPlain(Bytes, Graph),
     Delete(Bytes),
     /// All keys of the pool are deleted.
@@ -34,12 +34,12 @@ pub enum PoolAsk {
     SetMany(Pairs, i64),
     SetManyPlain(Pairs),
     DeleteMany(Keys),
-    /// Whether a key is there.
+    /// Whether a key exists.
     Has(Bytes),
 }
 
 impl PoolCall {
-    /// The pattern of what the call goes over: where it clears, that of the pool's keys.
+    /// The pattern of the call's walk: if it clears the pool, that of the pool's keys.
     pub fn pattern(&self, alloc: Global) -> Result<Option<Pattern>, AllocError>
         requires { is_good_name self.now.pool ≡ true }
         ensures { IfOk result (λ pattern. pattern ≡ ask_pattern self.now.pool self.now.ask) }
@@ -52,7 +52,7 @@ impl PoolCall {
 }
 
 impl PoolAsk {
-    /// How many events it makes at most, in a cache of so many slots.
+    /// The largest number of its events, in a cache of this many slots.
     pub fn events(&self, slots: u32) -> u64
         ensures { result ≡ pool_bound slots self.now }
     {

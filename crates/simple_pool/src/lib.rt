@@ -1,5 +1,5 @@
-//! Pools in the manner of PSR-16: several caches of their own within one. A pool keeps its key `k`
-//! under the cache's key `{name}k`.
+//! Pools in the manner of PSR-16: several caches within one. A pool keeps its key `k` under the
+//! cache's key `{name}k`.
 #![tactic(auto)]
 
 mod call;

@@ -48,7 +48,7 @@ fn is_unreserved(key: &[u8]) -> bool
     key.iter().all(|byte| !is_reserved(*byte))
 }
 
-/// Under which key of the cache a pool keeps its key.
+/// The key of the cache under which a pool keeps its key.
 pub fn pool_key(alloc: Global, pool: &[u8], key: &[u8]) -> Result<Bytes, AllocError>
     requires name { is_good_name pool.now ≡ true }
     requires key { is_good_key key.now ≡ true }
@@ -59,7 +59,7 @@ pub fn pool_key(alloc: Global, pool: &[u8], key: &[u8]) -> Result<Bytes, AllocEr
     Ok(Bytes::from_vec(bytes))
 }
 
-// The name in braces, in a block with room for so many bytes behind it.
+// The name in braces, in a block with room for `behind` bytes after it.
 fn braced(alloc: Global, pool: &[u8], behind: usize) -> Result<Vec<u8>, AllocError>
     requires name { length pool.now ≤ 64 }
     requires behind { behind < 2 ^ 32 }
@@ -72,7 +72,7 @@ fn braced(alloc: Global, pool: &[u8], behind: usize) -> Result<Vec<u8>, AllocErr
     Ok(bytes)
 }
 
-/// The pattern that matches just the keys in which the pool's name stands in braces.
+/// The pattern that matches exactly the keys that contain the pool's name in braces.
 pub fn pool_pattern(alloc: Global, pool: &[u8]) -> Result<Pattern, AllocError>
     requires { is_good_name pool.now ≡ true }
     ensures { IfOk result (λ pattern. pattern ≡ pattern_of pool.now) }

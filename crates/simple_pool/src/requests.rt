@@ -1,4 +1,4 @@
-//! What a call on a pool asks of the cache.
+//! The requests of a call on a pool to the cache.
 
 ghost use Rattle.std.specs.Prelude.{◌≡◌, ◌<◌, true, Some, IfOk, IsSome, length, slice_get};
 ghost use Rattle.std.specs.Prelude.{option_map};
@@ -12,7 +12,7 @@ use apcu_model::{Keys, Pairs, Request};
 use php_graph::{Bytes, Graph};
 use std::alloc::{AllocError, Global};
 
-/// The request of a call's event `i`. For `Clear` that is the slot from which it goes on.
+/// The request of a call's event `i`. For `Clear` that is the slot from which it continues.
 pub fn request(alloc: Global, call: &PoolCall, i: u32) -> Result<Request, AllocError>
     requires good { IsGoodCall call.now }
     requires within { IsSome (request_at call.now i) }
@@ -37,10 +37,10 @@ pub fn request(alloc: Global, call: &PoolCall, i: u32) -> Result<Request, AllocE
     }
 }
 
-/// How many keys a step of clearing takes at least, as long as there are as many.
+/// The least number of keys of a step of clearing, as long as there are as many.
 pub const POOL_STEP: u32 = 100;
 
-// Under which key of the cache a pool keeps the key of this number.
+// The key of the cache under which a pool keeps the key of this number.
 fn key_at(alloc: Global, pool: &[u8], keys: &Keys, i: u32) -> Result<Bytes, AllocError>
     requires name { is_good_name pool.now ≡ true }
     requires keys { are_good_keys keys.now ≡ true }
@@ -51,7 +51,7 @@ fn key_at(alloc: Global, pool: &[u8], keys: &Keys, i: u32) -> Result<Bytes, Allo
     pool_key(alloc, pool, keys.at(i).as_slice())
 }
 
-// A value is kept, for ever at ttl 0.
+// A value is kept, without a time limit if the ttl is 0.
 fn store(
     alloc: Global,
     pool: &[u8],
@@ -73,7 +73,7 @@ fn store(
     })
 }
 
-// A value is kept for a time, or where that is not positive, deleted.
+// A value is kept for a time or, if that is not positive, deleted.
 fn set(
     alloc: Global,
     pool: &[u8],
@@ -112,7 +112,7 @@ fn set_at(
     set(alloc, pool, key, value, ttl)
 }
 
-// The pair of this number is kept for ever.
+// The pair of this number is kept without a time limit.
 fn store_at(alloc: Global, pool: &[u8], pairs: &Pairs, i: u32) -> Result<Request, AllocError>
     requires name { is_good_name pool.now ≡ true }
     requires pairs { are_good_pairs pairs.now ≡ true }
