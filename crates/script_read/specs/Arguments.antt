@@ -1,4 +1,4 @@
--- What a value is as an argument: nothing where it is of the wrong kind or range.
+-- Values as arguments: nothing if one is of the wrong kind or range.
 use Rattle.std.specs.Prelude.{ℕ, ◌==◌, nat_le, bit_or, Bool, true, false, ◌&&◌}
 use Rattle.std.specs.Prelude.{if◌then◌else◌, List, [], ◌∷◌, codes, Option, Some, None, IsSome}
 use Rattle.std.specs.Prelude.{ℤ, pos, negsuc}
@@ -25,7 +25,7 @@ use Rattle.simple_pool.specs.Names.{is_good_name, is_good_key}
 use Rattle.simple_pool.specs.Requests.{is_good_ttl, are_good_keys, are_good_pairs}
 use Rattle.script_read.specs.Calls.{last_moment, most_items}
 
--- the function's answers for all of them, where it has one for each
+-- the function's results for all of them, if it has one for each
 abbrev pub each : {A B : Type 0} → (A → Option B) → List A → Option (List B)
 each f [] = Some []
 each f (x ∷ xs) = option_and_then (λ y. option_map (λ ys. y ∷ ys) (each f xs)) (f x)
@@ -61,20 +61,20 @@ abbrev pub from_to : ℕ → ℕ → ℤ → Option ℕ
 from_to low high (pos n) = if nat_le low n && nat_le n high then Some n else None
 from_to low high (negsuc n) = None
 
--- a limit of time, in seconds
+-- a ttl, in seconds
 abbrev pub ttl_in : List Kind → Option ℕ
 ttl_in g = option_and_then (from_to 0 4294967295) (integer g)
 
 abbrev pub moment : List Kind → Option ℕ
 moment g = option_and_then (from_to 0 last_moment) (integer g)
 
--- how many items a step of a walk has at least
+-- the least number of items of a step of a walk
 abbrev pub chunk_size : List Kind → Option ℕ
 chunk_size g = option_and_then (from_to 1 most_items) (integer g)
 
 -- ---- arrays
 
--- a member that is written here stands at a place of the graph
+-- a member that is written here is at a place of the graph
 abbrev pub IsThere : List Kind → Child → Type 0
 IsThere g (Own x) = IsSome (kind_at g x)
 IsThere g (Back x) = Unit {0}
@@ -93,7 +93,7 @@ abbrev pub member_string : List Kind → Child → Option (List ℕ)
 member_string g (Own x) = option_and_then string_of_kind (kind_at g x)
 member_string g (Back x) = None
 
--- strings, all written there; their own keys are not looked at
+-- strings, all written there; their own keys are ignored
 abbrev pub keys : List Kind → Option (List (List ℕ))
 keys g = option_and_then (each (λ m. member_string g m.1)) (members g)
 
@@ -131,14 +131,14 @@ stored g = or_else (option_map stores.One (key g)) (option_map stores.Many (pair
 
 -- ---- searches
 
--- what stands before the last `/`, and behind it
+-- what precedes the last `/`, and what follows it
 abbrev pub by_last_slash : List ℕ → Option (List ℕ × List ℕ)
 by_last_slash [] = None
 by_last_slash (b ∷ bytes) =
     or_else (option_map (λ cut. (b ∷ cut.0, cut.1)) (by_last_slash bytes))
     (if b == 47 then Some ([], bytes) else None)
 
--- behind a pattern's last `/` stands nothing, or an `i`: then letters match in either case
+-- nothing follows a pattern's last `/`, or an `i`: then letters match in either case
 abbrev pub pattern_ended : List ℕ × List ℕ → Option Pattern
 pattern_ended cut =
     if bytes_eq cut.1 [] then Some (record { text = cut.0; fold = false })
@@ -161,7 +161,7 @@ search_for (kinds.Null ∷ []) = Some None
 search_for (kinds.Str bytes ∷ []) = option_map Some (pattern bytes)
 search_for _ = None
 
--- ---- what an iterator tells
+-- ---- the fields of an iterator
 
 -- the fields of an item by their names, each with its bit, from bit 0 on
 abbrev pub field_bits : List (List ℕ × ℕ)
@@ -192,7 +192,7 @@ field_bit name = bit_in field_bits name
 abbrev pub bit_named : List Kind → Child → Option ℕ
 bit_named g child = option_and_then field_bit (member_string g child)
 
--- an array of fields, all written there; one may stand twice
+-- an array of fields, all written there; one may occur twice
 abbrev pub fields : List Kind → Option Fields
 fields g =
     option_map (λ bits. record { 0 = fold bit_or 0 bits })
@@ -210,7 +210,7 @@ which_list g = option_and_then list_named (key g)
 
 -- ---- pools
 
--- where it passes the test
+-- if it passes the test
 abbrev pub kept_if : {A : Type 0} → (A → Bool) → Option A → Option A
 kept_if test o = option_and_then (λ x. if test x then Some x else None) o
 
@@ -232,6 +232,6 @@ abbrev pub own_ttl : List Kind → Option (Option ℤ)
 own_ttl g =
     or_else (option_map (λ n. None) (null g)) (option_map Some (kept_if is_good_ttl (integer g)))
 
--- the value that stands for one that is left out
+-- the default for a value that is left out
 abbrev pub null_value : List Kind
 null_value = kinds.Null ∷ []

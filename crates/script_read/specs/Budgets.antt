@@ -1,4 +1,4 @@
--- How many events the workers of scripts may make. Moments have no part in it.
+-- How many events the workers of scripts may make. It does not depend on moments.
 use Rattle.std.proofs.Common.{◌≡◌, ℕ, ◌+◌, List, [], ◌∷◌, refl, ap, ap₂}
 use Rattle.std.specs.Prelude.{map}
 use Rattle.apcu_model.specs.declared.conf.Clock.{Clock}
@@ -25,7 +25,7 @@ all_events slots (script ∷ scripts) = (events_in slots script + 1) + all_event
 abbrev pub most_events : ℕ
 most_events = MOST_EVENTS
 
--- under each clock they are as many
+-- under each clock the number is the same
 pub timed_events : (slots : ℕ) (clock : Clock) (script : List Step)
     → events_in slots (timed clock script) ≡ events_in slots script
 timed_events slots clock [] = refl

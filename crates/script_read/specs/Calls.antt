@@ -12,8 +12,8 @@ use Rattle.script_read.specs.declared.call.Call.TheVariants.{Pool}
 use Rattle.script_read.specs.declared.script.Step.{Step}
 use Rattle.simple_pool.specs.Requests.{IsGoodCall, pool_bound}
 
--- How many events a call makes at most, in a cache of so many slots: a walk over the active rows
--- takes a slot at least in each step, and all removed rows are one step.
+-- The largest number of events of a call, in a cache of this many slots: a walk over the active
+-- rows takes at least one slot in each step, and all removed rows are one step.
 abbrev pub event_bound : ℕ → Call → ℕ
 event_bound slots (StoreOne key value ttl exclusive) = 1
 event_bound slots (StoreMany pairs ttl exclusive) = length pairs
@@ -41,17 +41,17 @@ event_bound slots (Pool call) = pool_bound slots call.ask
 abbrev pub last_moment : ℕ
 last_moment = 999999999999
 
--- the step's moments are such
+-- the step's moments are at most that
 abbrev pub IsInTime : Step → Type 0
 IsInTime step = (step.t ≤ last_moment) × (step.start ≤ last_moment)
 
--- the most items that may be asked for in a step of a walk
+-- the most items of a step of a walk
 abbrev pub most_items : ℕ
 most_items = 65536
 
--- A call's arguments are in their ranges, where their types do not say it: its generator is an
--- entry, with as many inside as may be, each step of a walk asks for an item at least, and a pool's
--- name, keys and time to live have their forms.
+-- A call's arguments are in their ranges, unless their types say it: its generator is an entry,
+-- with as many inside as allowed, each step of a walk has at least one item, and a pool's name,
+-- keys and time to live have their forms.
 abbrev pub HasRanges : Call → Type 0
 HasRanges (Entry gen) = (0 < length gen.levels) × (length gen.levels ≤ most_levels)
 HasRanges (Walk wanted fields size list) = (0 < size) × (size ≤ most_items)
@@ -59,6 +59,6 @@ HasRanges (WalkDelete wanted size) = (0 < size) × (size ≤ most_items)
 HasRanges (Pool call) = IsGoodCall call
 HasRanges _ = Unit {0}
 
--- the step's call is such a one
+-- the step's call has its ranges
 abbrev pub IsRanged : Step → Type 0
 IsRanged step = HasRanges step.call

@@ -8,7 +8,7 @@ use Rattle.script_read.specs.declared.script.Step.{Step}
 
 -- ---- while lines are read
 
--- both are 0 where a script begins
+-- both are 0 when a script begins
 abbrev pub at_first : Moments
 at_first = record { t = 0; start = 0 }
 

@@ -62,7 +62,7 @@ so_leaves slots (Each asked) replies others more done = each_leaves asked replie
 so_leaves slots (Steps ask) replies others more done =
     steps_leave slots ask 0 replies others more done
 
--- a call that is done stays so, and leaves the replies that come after
+-- a call that is done stays done, and leaves the replies that come after
 pub leaves_more : (conf : Conf) (call : Call) (replies others more : List Reply)
     → next_of conf call replies ≡ Leaves others
     → next_of conf call (replies ++ more) ≡ Leaves (others ++ more)

@@ -10,7 +10,7 @@ use Rattle.script_read.specs.declared.call.Call.{Call}
 use Rattle.script_read.specs.declared.call.Call.TheVariants.{StoreOne, FetchOne, Inc}
 use Rattle.script_read.specs.declared.script.Step.{Step}
 
--- the state behind one more number, in 64 bits
+-- the state after one more number, in 64 bits
 abbrev pub state_after : ℕ → ℕ
 state_after state = (state * 6364136223846793005 + 1442695040888963407) % 2 ^ 64
 
@@ -25,21 +25,21 @@ value_key worker n = codes "p" ++ decimal worker ++ codes "." ++ decimal n
 abbrev pub counter_key : ℕ → List ℕ
 counter_key n = codes "c" ++ decimal n
 
--- What a number means: a fetch of a value of some worker, by its numbers; a store of so many bytes
--- under a value of the worker's own; or a step of a counter.
+-- What a number means: a fetch of a value of some worker, by its numbers; a store of this many
+-- bytes under a value of the worker's own; or a step of a counter.
 pub data Draw : Type 0 where
   Fetches : ℕ → ℕ → Draw
   Stores : ℕ → ℕ → Draw
   Counts : ℕ → ℕ → Draw
 
--- among so many workers
+-- with this many workers
 abbrev pub draw_of : ℕ → ℕ → Draw
 draw_of workers r =
     if r % 4 == 3 then Counts (r / 4 % 8) (r / 32 % 100)
     else if r % 4 == 2 then Stores (r / 4 % 16) (r / 64 % 200)
     else Fetches (r / 64 % workers) (r / 4 % 16)
 
--- a worker's draws, so many of them, from a state on
+-- this many draws of a worker, from a state on
 abbrev pub draws_from : ℕ → ℕ → ℕ → List Draw
 draws_from workers zero state = []
 draws_from workers (suc calls) state =
@@ -51,14 +51,14 @@ abbrev pub draws_of : ℕ → ℕ → ℕ → List (List Draw)
 draws_of seed workers calls =
     map (λ worker. draws_from workers calls ((seed + worker) % 2 ^ 64)) (range_with_len 0 workers)
 
--- the worker's call; stored is a string of the byte x
+-- the worker's call; a store is of a string of the byte x
 abbrev pub call_of : ℕ → Draw → Call
 call_of worker (Fetches owner n) = FetchOne (value_key owner n)
 call_of worker (Stores n len) =
     StoreOne (value_key worker n) (kinds.Str (replicate len 120) ∷ []) 0 false
 call_of worker (Counts n step) = Inc (counter_key n) (pos step) 0
 
--- what it asks
+-- its request
 abbrev pub asked_by : ℕ → Draw → Request
 asked_by worker (Fetches owner n) = requests.Fetch (value_key owner n)
 asked_by worker (Stores n len) =

@@ -1,4 +1,4 @@
--- What a reader of scripts answers, beside what reading gives.
+-- The results of a reader of scripts, in addition to what reading gives.
 use Rattle.std.specs.Prelude.{◌≡◌, ℕ, ◌+◌, ◌≤◌, List, length, map, codes, Result, Ok, Err}
 use Rattle.notation.specs.declared.fault.Reason.{Reason}
 use Rattle.notation.specs.declared.fault.Fault.{Fault}
@@ -22,19 +22,19 @@ abbrev pub Stops : {Y : Type 0} → Stop → Result Y Fault → Type 0
 Stops stops.Memory read = Unit {0}
 Stops (stops.Fault f) read = read ≡ Err f
 
--- What a function returned, seen by view, is what reading gives, unless memory ran out.
+-- The result of a function, by its view, is what reading gives, unless memory ran out.
 abbrev pub GivesItem : {X Y : Type 0} → (X → Y) → Result X Stop → Result Y Fault → Type 0
 GivesItem view (Ok x) read = read ≡ Ok (view x)
 GivesItem view (Err e) read = Stops e read
 
--- The first fault of the bytes stands at this place, counted from 0.
+-- The first fault of the bytes is at this place, counted from 0.
 pub record IsFirstScriptFault (bytes : List ℕ) (place : ℕ) (reason : Reason) : Type 0 where
   pub fault : Fault
   pub reads : scripts_at bytes ≡ Err fault
   pub why : fault.reason ≡ reason
   pub at : place + fault.left ≡ length bytes
 
--- The scripts are those that are read; a fault is the first one. Memory may be wanting always.
+-- The scripts are those that are read; a fault is the first one. Memory may always run out.
 abbrev pub ReadsScripts : List ℕ → Result (List (List Step)) ScriptFault → Type 0
 ReadsScripts bytes (Ok scripts) = scripts_at bytes ≡ Ok scripts
 ReadsScripts bytes (Err (faults.Bad place reason)) = IsFirstScriptFault bytes place reason
@@ -79,7 +79,7 @@ forms_of rows = map (λ row. (row.text.now, form_named row.word)) rows
 abbrev pub bits_of : List Field → List (List ℕ × ℕ)
 bits_of fields = map (λ field. (field.name.now, field.bit)) fields
 
--- what a line does is in range: its moment, or its call's arguments
+-- the effect of a line is in range: its moment, or its call's arguments
 abbrev pub IsInRange : Effect → Type 0
 IsInRange (Sets t) = t ≤ last_moment
 IsInRange (Begins t) = t ≤ last_moment

@@ -1,4 +1,4 @@
--- What scripts are spelled as, and what the lines mean.
+-- How scripts are spelled, and what the lines mean.
 use Rattle.std.specs.Prelude.{◌≡◌, ℕ, zero, suc, ◌≤◌, List, [], ◌∷◌, ◌++◌, length, codes}
 use Rattle.std.specs.Prelude.{Option, Some, None}
 use Rattle.std.specs.Option.{option_and_then, option_map}
@@ -19,8 +19,7 @@ use Rattle.script_read.specs.Table.{Form, Done, Need, May, Make, form_of}
 
 -- ---- what is written
 
--- a generator: a value, or an entry's key, the generator inside it, and its limit of time where it
--- has one
+-- a generator: a value, or an entry's key, the generator inside it, and its ttl if it has one
 pub data WrittenGen : Type 0 where
   Literal : List Kind → WrittenGen
   Nested : List Kind → WrittenGen → WrittenGen
@@ -85,14 +84,14 @@ AreArguments arguments = AllByRecursion IsArgument arguments
 
 -- ---- what is meant
 
--- an entry, where its parts mean something
+-- an entry, if its parts mean something
 abbrev pub entry_meant : Option (List ℕ) → Option Generator → Option ℕ → Option Generator
 entry_meant k inner t =
     option_and_then (λ bytes. option_and_then
     (λ gen. option_map (λ limit. entry_round bytes limit gen) t) inner) k
 
--- What a generator makes its value of, where so many entries may lie in one another. A limit of
--- time that is left out is none.
+-- The value of a generator in which this many entries may be nested. A ttl that is left out is
+-- none.
 abbrev pub gen_meant : ℕ → WrittenGen → Option Generator
 gen_meant levels (Literal g) = Some (literal_gen g)
 gen_meant zero (Nested k inner) = None
@@ -101,7 +100,7 @@ gen_meant zero (Limited k inner t) = None
 gen_meant (suc levels) (Limited k inner t) =
     entry_meant (key k) (gen_meant levels inner) (ttl_in t)
 
--- how many entries may lie inside the line's own
+-- how many entries may be nested inside the line's own
 abbrev pub inner_levels : ℕ
 inner_levels = 7
 

@@ -2,7 +2,7 @@
 use Rattle.std.specs.Prelude.{ℕ, List, [], ◌∷◌, ◌++◌, length}
 use Rattle.script_read.specs.declared.script.Step.{Step}
 
--- one step more in the last script
+-- one more step in the last script
 abbrev pub grown : List (List Step) → Step → List (List Step)
 grown [] step = []
 grown (steps ∷ []) step = (steps ++ step ∷ []) ∷ []

@@ -1,4 +1,4 @@
--- The patterns that calls are asked with, and whether their regexes may be refused.
+-- The patterns of calls, and whether their regexes may be refused.
 use Rattle.std.specs.Prelude.{◌≡◌, ◌⊎◌, ℕ, Bool, false, List, Contains, Option, Some, None}
 use Rattle.apcu_model.specs.declared.searching.Pattern.{Pattern}
 use Rattle.apcu_model.specs.PatternMatches.{is_pattern}
@@ -7,7 +7,7 @@ use Rattle.script_read.specs.declared.call.Call.{Call}
 use Rattle.script_read.specs.declared.call.Call.TheVariants.{Walk, WalkDelete, Totals, Pool}
 use Rattle.script_read.specs.declared.script.Step.{Step}
 
--- the pattern of a call, if it has one; where a pool is cleared, that of its keys
+-- the pattern of a call, if it has one; if a pool is cleared, that of its keys
 abbrev pub call_pattern : Call → Option Pattern
 call_pattern (Walk wanted fields size list) = wanted
 call_pattern (WalkDelete wanted size) = wanted
@@ -15,7 +15,7 @@ call_pattern (Totals wanted list) = wanted
 call_pattern (Pool call) = ask_pattern call.pool call.ask
 call_pattern _ = None
 
--- the grammar reads no pattern there, or what makes regexes may refuse it
+-- the grammar does not parse it, or the maker of regexes may refuse it
 abbrev pub IsRefusable : (Bool → List ℕ → Type 0) → Pattern → Type 0
 IsRefusable may_refuse p = (is_pattern p.fold p.text ≡ false) ⊎ may_refuse p.fold p.text
 

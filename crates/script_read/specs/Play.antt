@@ -1,4 +1,4 @@
--- What workers ask of the cache, and what comes of a journal.
+-- The requests of workers to the cache, and the play of a journal.
 use Rattle.std.specs.Prelude.{ℕ, nat_lt, ◌&&◌, Bool, true, false, if◌then◌else◌, List, [], ◌∷◌}
 use Rattle.std.specs.Prelude.{◌++◌, length, map, Option, Some, None, slice_get, slice_set}
 use Rattle.std.specs.Prelude.{unwrap_or, is_none, IsTrue, IsSome}
@@ -23,18 +23,18 @@ use Rattle.script_read.specs.declared.script.Step.{Step}
 use Rattle.simple_pool.specs.Requests.{PoolAsking, pool_asking}
 use Rattle.simple_pool.specs.Requests as pools
 
--- How a call asks: these requests, one after the other; or step by step, each by the slot from
--- which it goes on.
+-- The requests of a call: these, one after the other; or step by step, each by the slot from which
+-- it continues.
 pub data Asking : Type 0 where
   Each : List Request → Asking
   Steps : (ℕ → Request) → Asking
 
--- how a pool's call asks
+-- those of a pool's call
 abbrev pub asking_in : PoolAsking → Asking
 asking_in (pools.Each asked) = Each asked
 asking_in (pools.Steps ask) = Steps ask
 
--- Whether the cache is enabled asks nothing. The removed rows are walked over in one step.
+-- `apcu_enabled` makes no request. The removed rows are walked over in one step.
 abbrev pub asking_of : Call → Asking
 asking_of (StoreOne key value ttl exclusive) = Each (requests.Store key value ttl exclusive ∷ [])
 asking_of (StoreMany pairs ttl exclusive) =
@@ -61,8 +61,8 @@ asking_of (WalkDelete wanted size) = Steps (λ from. requests.ChunkDelete wanted
 asking_of (Totals wanted list) = Each (requests.Totals wanted list ∷ [])
 asking_of (Pool call) = asking_in (pool_asking call.pool call.ask)
 
--- What a call does next, after it got some replies: it asks once more, or it is done and leaves the
--- replies that belong to the calls after it.
+-- What a call does next, after it got some replies: it makes one more request, or it is done and
+-- leaves the replies that belong to the calls after it.
 pub data Next : Type 0 where
   Asks : Request → Next
   Leaves : List Reply → Next
@@ -73,13 +73,13 @@ asks_each [] replies = Leaves replies
 asks_each (request ∷ more) [] = Asks request
 asks_each (request ∷ more) (reply ∷ replies) = asks_each more replies
 
--- the slot up to which a step went, where the reply is a step's
+-- the slot at which a step ended, if the reply is a step's
 abbrev pub step_end : ℕ → Reply → ℕ
 step_end slots (answers.Chunk chunk) = chunk.next
 step_end slots (answers.Next next) = next
 step_end slots _ = slots
 
--- The slot from which a walk goes on after a step from this one; the number of slots is its end.
+-- The slot from which a walk continues after a step from this one; the number of slots is its end.
 -- The steps of a cache go up. A reply that does not, which no cache gives, ends the walk.
 abbrev pub slot_after : ℕ → ℕ → Reply → ℕ
 slot_after slots from reply =
@@ -92,7 +92,7 @@ asks_steps slots ask from (reply ∷ replies) =
     if nat_lt from slots then asks_steps slots ask (slot_after slots from reply) replies
     else Leaves (reply ∷ replies)
 
--- a walk goes from the first slot on
+-- a walk begins at the first slot
 abbrev pub asks_so : ℕ → Asking → List Reply → Next
 asks_so slots (Each asked) replies = asks_each asked replies
 asks_so slots (Steps ask) replies = asks_steps slots ask 0 replies
@@ -128,12 +128,12 @@ wanted conf [] (reply ∷ replies) = None
 wanted conf (step ∷ steps) replies =
     continued step.t (wanted conf steps) (next_of conf step.call replies)
 
--- After some events: what the cache is, and what each worker was answered.
+-- After some events: the cache, and the replies to each worker.
 pub record Play : Type 0 where
   pub stage : Stage
   pub replies : List (List Reply)
 
--- nothing was asked yet
+-- no request was made yet
 abbrev pub nothing_played : Conf → List (List Step) → Play
 nothing_played conf scripts = record { stage = start_of conf; replies = map (λ script. []) scripts }
 
@@ -158,7 +158,7 @@ event_of mark wish = record {
   mask = mark.mask;
 }
 
--- the play after an event, which is answered by the cache of one thread
+-- the play after an event, with the reply of the single-threaded cache
 abbrev pub after_wish : Play → Mark → Wish → Play
 after_wish p mark wish = record {
   stage = after_event p.stage (event_of mark wish);
@@ -174,7 +174,7 @@ marked conf scripts p mark =
     (wish_of conf scripts p mark.worker)
     else None
 
--- the play of a journal, where each of its marks can be played
+-- the play of a journal, if each of its marks can be played
 abbrev pub played_from : Conf → List (List Step) → Play → List Mark → Option Play
 played_from conf scripts p [] = Some p
 played_from conf scripts p (mark ∷ marks) =

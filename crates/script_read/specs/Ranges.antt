@@ -60,10 +60,10 @@ keys_called (WalkDelete wanted size) = []
 keys_called (Totals wanted list) = []
 keys_called (Pool call) = keys_asked call.ask
 
--- the keys that the step names are of bytes
+-- the keys that the step names consist of bytes
 abbrev pub HasByteKeys : Step → Type 0
 HasByteKeys step = AllByRecursion AreSomeBytes (keys_called step.call)
 
--- those that all steps name are
+-- those that all steps name do
 abbrev pub HaveByteKeys : List (List Step) → Type 0
 HaveByteKeys scripts = AllByRecursion (λ script. AllByRecursion HasByteKeys script) scripts

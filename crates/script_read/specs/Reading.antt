@@ -27,20 +27,20 @@ use Rattle.script_read.specs.Grammar.{entry_word, inner_levels}
 abbrev pub ends_word : ℕ → Bool
 ends_word b = not ((nat_le 65 b && nat_le b 90) || ((nat_le 97 b && nat_le b 122) || b == 95))
 
--- how long the longest run of letters and `_` in front is
+-- the length of the longest run of letters and `_` in front
 abbrev pub word_len : List ℕ → ℕ
 word_len bytes = position_or_len ends_word bytes
 
 abbrev pub line_word : List ℕ → List ℕ
 line_word line = take (word_len line) line
 
--- what stands behind it
+-- what follows it
 abbrev pub behind_word : List ℕ → List ℕ
 behind_word line = drop (word_len line) line
 
--- ---- what is due between arguments and behind them
+-- ---- what is expected between arguments and after them
 
--- A space before an argument that is due. A line that ends there lacks it.
+-- A space before an expected argument. It is missing if the line ends there.
 unfoldable pub space_at : List ℕ → Result (List ℕ) Fault
 space_at [] = fail reasons.End []
 space_at (b ∷ rest) =
@@ -67,7 +67,7 @@ ends_here (b ∷ rest) = b == 10
 
 -- ---- values as arguments
 
--- what was read, where it is something, with the bytes after it; else a fault at the argument
+-- what was read, if it is something, with the bytes after it; otherwise a fault at the argument
 abbrev pub chosen : {A : Type 0} → Option A → List ℕ → List ℕ → Result (A × List ℕ) Fault
 chosen (Some x) argument rest = Ok (x, rest)
 chosen None argument rest = fail reasons.Argument argument
@@ -79,7 +79,7 @@ choice_at choose argument = reading_of argument >>= λ v. chosen (choose v.0) ar
 abbrev pub numbers_at : List ℕ → Result (Option ℤ × List ℕ) Fault
 numbers_at bytes = reading_of bytes >>= λ v. Ok (integer v.0, v.1)
 
--- an argument that is due, and one that may be left out
+-- an expected argument, and one that may be left out
 abbrev pub argument_at : {A : Type 0} → (List Kind → Option A) → List ℕ → Result (A × List ℕ) Fault
 argument_at choose bytes = space_at bytes >>= λ argument. choice_at choose argument
 
@@ -88,7 +88,7 @@ abbrev pub optional_at : {A : Type 0}
 optional_at default choose bytes =
     if ends_here bytes then Ok (default, bytes) else argument_at choose bytes
 
--- an argument that is due, and the end of the line behind it
+-- an expected argument, and the end of the line after it
 abbrev pub last_argument_at : {A : Type 0}
     → (List Kind → Option A) → List ℕ → Result (A × List ℕ) Fault
 last_argument_at choose bytes =
@@ -96,13 +96,13 @@ last_argument_at choose bytes =
 
 -- ---- generators
 
--- the byte that is due inside a generator
+-- the expected byte inside a generator
 unfoldable pub separator_at : ℕ → List ℕ → Result (List ℕ) Fault
 separator_at separator [] = fail reasons.End []
 separator_at separator (b ∷ rest) =
     if b == separator then Ok rest else fail reasons.Separator (b ∷ rest)
 
--- the end of an entry, with its limit of time before it where it has one
+-- the end of an entry, with its ttl before it if it has one
 unfoldable pub limit_at : List ℕ → Result (ℕ × List ℕ) Fault
 limit_at [] = fail reasons.End []
 limit_at (b ∷ rest) =
@@ -119,7 +119,7 @@ literal_at (b ∷ rest) =
     then (reading_of rest >>= λ v. separator_at 41 v.1 >>= λ after. Ok (literal_gen v.0, after))
     else fail reasons.Argument (b ∷ rest)
 
--- an entry behind its word, where this reads the generator inside it
+-- an entry after its word, if this reads the generator inside it
 abbrev pub entry_at : (List ℕ → Result (Generator × List ℕ) Fault)
     → List ℕ → Result (Generator × List ℕ) Fault
 entry_at inner_at bytes = do
@@ -129,12 +129,12 @@ entry_at inner_at bytes = do
   t ← limit_at inner.1
   Ok (entry_round k.0 t.0 inner.0, t.1)
 
--- an entry, and no value, begins here
+-- an entry, not a value, begins here
 abbrev pub begins_entry : List ℕ → Bool
 begins_entry bytes = bytes_eq (take (length entry_word) bytes) entry_word
 
--- A generator, where so many entries may lie in one another. One more is refused at its
--- parenthesis, before anything of it is read.
+-- A generator in which this many entries may be nested. One more is refused at its parenthesis,
+-- before anything of it is read.
 unfoldable pub generator_at : ℕ → List ℕ → Result (Generator × List ℕ) Fault
 generator_at zero bytes =
     if begins_entry bytes then fail reasons.Generator bytes else literal_at bytes
@@ -143,13 +143,13 @@ generator_at (suc levels) bytes =
     then entry_at (generator_at levels) (drop (length entry_word) bytes)
     else literal_at bytes
 
--- an argument that is due
+-- an expected argument
 abbrev pub gen_argument_at : List ℕ → Result (Generator × List ℕ) Fault
 gen_argument_at bytes = space_at bytes >>= λ argument. generator_at inner_levels argument
 
 -- ---- lines
 
--- What may follow, to the end of the line. What stands last began at the first of these bytes.
+-- What may follow, to the end of the line. The last argument began at the first of these bytes.
 unfoldable pub rest_at : Form → List ℕ → List ℕ → Result (Effect × List ℕ) Fault
 rest_at (Done e) last bytes = end_at bytes >>= λ after. Ok (e, after)
 rest_at (Need next) last bytes = do
@@ -166,12 +166,12 @@ rest_at (Make next) last bytes = do
   rest_at (next gen.0) argument gen.1
 rest_at (Refuse reason) last bytes = fail reason last
 
--- the line `worker`, where so many scripts have begun
+-- the line `worker`, after this many scripts have begun
 abbrev pub worker_at : ℕ → List ℕ → Result (List ℕ) Fault
 worker_at begun line =
     if nat_lt begun MOST_WORKERS then end_at (behind_word line) else fail reasons.Workers line
 
--- what may follow a word, where so many scripts have begun: nothing before the first `worker`
+-- what may follow a word, after this many scripts have begun: nothing before the first `worker`
 abbrev pub form_after : ℕ → List ℕ → Form
 form_after zero word = Refuse reasons.Line
 form_after (suc begun) word = form_of word
@@ -193,7 +193,7 @@ with_effect m others (Sets u) = others (record m { t = u })
 with_effect m others (Begins u) = others (request_moments u)
 with_effect m others (Calls call) = others m >>= λ more. Ok (step_at m call ∷ more.0, more.1)
 
--- The lines up to the end of the bytes, at most so many, where so many scripts have begun, from
+-- The lines up to the end of the bytes, at most this many, after this many scripts have begun, from
 -- these moments on.
 unfoldable pub lines_at : ℕ → ℕ → Moments → List ℕ → Result Rest Fault
 lines_at lines begun m [] = Ok ([], [])
@@ -205,6 +205,6 @@ lines_at (suc lines) begun m (b ∷ rest) =
     else (line_at begun (b ∷ rest) >>= λ e.
     with_effect m (λ later. lines_at lines begun later e.1) e.0)
 
--- All of the bytes. Each line takes a byte at least, so there are no more of them than bytes.
+-- All of the bytes. Each line takes at least one byte, so there are no more of them than bytes.
 unfoldable pub scripts_at : List ℕ → Result (List (List Step)) Fault
 scripts_at bytes = lines_at (length bytes) 0 at_first bytes >>= λ rest. Ok rest.1

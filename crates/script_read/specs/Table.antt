@@ -38,28 +38,28 @@ use Rattle.script_read.specs.GenParts.{entry_round}
 pub data Form : Type 0 where
   -- its end
   Done : Effect → Form
-  -- a value, which decides how it goes on
+  -- a value, which decides how the line continues
   Need : (List Kind → Form) → Form
-  -- the same, or the end: then it goes on as if nothing more could come
+  -- the same, or the end: then it continues as if nothing more could come
   May : Form → (List Kind → Form) → Form
   -- a generator
   Make : (Generator → Form) → Form
-  -- nothing: what stands last is refused for the reason
+  -- nothing: the last argument is refused for the reason
   Refuse : Reason → Form
 
 abbrev pub or_refuse : Option Form → Form
 or_refuse (Some form) = form
 or_refuse None = Refuse Argument
 
--- the value, as this takes it, decides how the line goes on
+-- the value, as this takes it, decides how the line continues
 abbrev pub taken : {A : Type 0} → (List Kind → Option A) → (A → Form) → List Kind → Form
 taken choose next g = or_refuse (option_map next (choose g))
 
--- an argument that is due
+-- an expected argument
 abbrev pub needs : {A : Type 0} → (List Kind → Option A) → (A → Form) → Form
 needs choose next = Need (taken choose next)
 
--- an argument that stands for this one where it is left out
+-- an argument with this default
 abbrev pub may : {A : Type 0} → A → (List Kind → Option A) → (A → Form) → Form
 may default choose next = May (next default) (taken choose next)
 
@@ -68,7 +68,7 @@ call_form call = Done (Calls call)
 
 -- ---- words
 
--- a line with a moment begins a request, or sets the moment alone
+-- a line with a moment begins a request, or only sets the moment
 abbrev pub timing : Bool → ℕ → Effect
 timing false t = Sets t
 timing true t = Begins t
@@ -76,12 +76,12 @@ timing true t = Begins t
 abbrev pub moment_form : Bool → Form
 moment_form begins = needs moment (λ t. Done (timing begins t))
 
--- a key's value, and a limit of time
+-- a key's value, and a ttl
 abbrev pub store_one : Bool → List ℕ → Form
 store_one exclusive k =
     needs any_value (λ v. may 0 ttl_in (λ t. call_form (StoreOne k v t exclusive)))
 
--- behind an array of keys with their values: a null, and a limit of time
+-- after an array of keys with their values: a null, and a ttl
 abbrev pub store_many : Bool → List (List ℕ × List Kind) → Form
 store_many exclusive ps =
     may tt null (λ n. may 0 ttl_in (λ t. call_form (StoreMany ps t exclusive)))
@@ -103,12 +103,12 @@ abbrev pub delete_of : Asked → Call
 delete_of (asks.One k) = DeleteOne k
 delete_of (asks.Many ks) = DeleteMany ks
 
--- the step of a call that counts up or down: down is by the negated step, in 64 bits with a sign
+-- the step of a call that counts up or down: down is by the negated step, as a signed 64-bit number
 abbrev pub step_by : Bool → ℤ → ℤ
 step_by false n = n
 step_by true n = int_wrapping_neg w64 n
 
--- the step, 1 where it is left out, and a limit of time
+-- the step, 1 if it is left out, and a ttl
 abbrev pub count_form : Bool → Form
 count_form down =
     needs key (λ k. may (pos 1) integer (λ n.
@@ -119,7 +119,7 @@ abbrev pub cas_form : Form
 cas_form =
     needs key (λ k. needs integer (λ expect. needs integer (λ set. call_form (Cas k expect set))))
 
--- a key, what gives the value where no live row has it, and a limit of time
+-- a key, the generator of the value if no live row has it, and a ttl
 abbrev pub entry_form : Form
 entry_form =
     needs key (λ k. Make (λ gen. may 0 ttl_in (λ t. call_form (Entry (entry_round k t gen)))))
@@ -127,16 +127,16 @@ entry_form =
 abbrev pub key_info_form : Form
 key_info_form = needs key (λ k. call_form (KeyInfo k))
 
--- whether the lists are left out, which they are not where nothing is said
+-- whether the lists are left out, by default they are not
 abbrev pub info_form : (Bool → Call) → Form
 info_form info = may false truth (λ limited. call_form (info limited))
 
--- how many items a step of a walk has at least, where it is left out
+-- the least number of items of a step of a walk, if it is left out
 abbrev pub usual_size : ℕ
 usual_size = 100
 
--- Which keys, what is told of their rows, how many items a step has at least, and which rows: all
--- fields, the usual size and the active rows where they are left out.
+-- The keys, the fields of their rows, the least number of items of a step, and the list of rows:
+-- all fields, the default number and the active rows if they are left out.
 abbrev pub walk_form : Form
 walk_form =
     needs search_for (λ s. may all_fields fields (λ f.
@@ -154,7 +154,7 @@ totals_form = needs search_for (λ s. may Active which_list (λ l. call_form (To
 abbrev pub pool_call : List ℕ → PoolAsk → Form
 pool_call p ask = call_form (Pool (record { pool = p; ask = ask }))
 
--- without a time to live a value is kept for ever
+-- without a time to live a value is kept without limit
 abbrev pub set_ask : List ℕ → List Kind → Option ℤ → PoolAsk
 set_ask k v None = SetPlain k v
 set_ask k v (Some n) = Set k v n
@@ -163,13 +163,13 @@ abbrev pub set_many_ask : List (List ℕ × List Kind) → Option ℤ → PoolAs
 set_many_ask ps None = SetManyPlain ps
 set_many_ask ps (Some n) = SetMany ps n
 
--- a key, and the value for one that is not there: a null where it is left out
+-- a key, and the value if it does not exist: a null if it is left out
 abbrev pub pool_get_form : Form
 pool_get_form =
     needs pool_name (λ p. needs own_key (λ k.
     may null_value any_value (λ d. pool_call p (Get k d))))
 
--- a key, its value, and a time to live: none where it is left out
+-- a key, its value, and a time to live: none if it is left out
 abbrev pub pool_set_form : Form
 pool_set_form =
     needs pool_name (λ p. needs own_key (λ k. needs any_value (λ v.
@@ -199,7 +199,7 @@ pool_delete_multiple_form =
 abbrev pub pool_has_form : Form
 pool_has_form = needs pool_name (λ p. needs own_key (λ k. pool_call p (Has k)))
 
--- the words, `worker` apart
+-- the words, except `worker`
 abbrev pub table : List (List ℕ × Form)
 table =
     (codes "time", moment_form false)

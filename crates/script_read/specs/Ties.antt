@@ -1,4 +1,4 @@
--- What ties reading to the grammar.
+-- How reading is tied to the grammar.
 use Rattle.std.specs.Prelude.{◌≡◌, ℕ, ◌<◌, List, Ok}
 use Rattle.std.specs.List.{AllByRecursion}
 use Rattle.script_read.specs.declared.script.Step.{Step}
@@ -18,7 +18,7 @@ abbrev pub ScriptsAgain : Type 0
 ScriptsAgain = (bytes : List ℕ) (scripts : List (List Step)) → AreScripts bytes scripts
     → scripts_at bytes ≡ Ok scripts
 
--- bytes spell one list of scripts at most
+-- bytes spell at most one list of scripts
 abbrev pub ScriptsAreOne : Type 0
 ScriptsAreOne = (bytes : List ℕ) (a b : List (List Step)) → AreScripts bytes a
     → AreScripts bytes b → a ≡ b

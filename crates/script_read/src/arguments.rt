@@ -1,4 +1,4 @@
-//! The arguments of lines: values, and what is made of them.
+//! The arguments of lines: values, and their conversions.
 
 ghost use Rattle.std.specs.Prelude.{◌≡◌, ℕ, ◌≤◌, ◌<◌, false, List, [], ◌∷◌, length, pos, Ok, Err};
 ghost use Rattle.std.specs.Prelude.{IfOk, IfErr, IfSome, IfNone};
@@ -36,7 +36,7 @@ pub(crate) fn fault(reason: Reason, bytes: &[u8]) -> Stop
     })
 }
 
-// A space before an argument that is due.
+// A space before an expected argument.
 #[tactic(auto, unfolding(crate::specs::Reading::space_at))]
 pub(crate) fn space(bytes: &[u8]) -> Result<&[u8], Stop>
     ensures read { GivesItem (λ rest. rest.now) result (space_at bytes.now) }
@@ -99,7 +99,7 @@ pub(crate) fn value(alloc: Global, bytes: &[u8]) -> Result<(Graph, &[u8]), Stop>
     }
 }
 
-// The string that begins there; nothing where none does. No graph is made of it.
+// The string that begins there; nothing if none does. No graph is made of it.
 fn string_in(alloc: Global, bytes: &[u8]) -> Result<Option<(Bytes, &[u8])>, Stop>
     ensures found { IfOk result (λ read. IfSome read (λ x.
         reading_of bytes.now ≡ Ok (Str x.0 ∷ [], x.1.now))) }
@@ -138,7 +138,7 @@ pub(crate) fn value_argument(alloc: Global, bytes: &[u8]) -> Result<(Graph, &[u8
     value(alloc, argument)
 }
 
-// One key, behind the space before it.
+// One key, after the space before it.
 pub(crate) fn key_choice(alloc: Global, argument: &[u8]) -> Result<(Bytes, &[u8]), Stop>
     ensures read { GivesItem (λ x. (x.0, x.1.now)) result (choice_at key argument.now) }
     ensures no_more { IfOk result (λ x. length x.1.now ≤ length argument.now) }
@@ -175,7 +175,7 @@ pub(crate) fn integer_argument(alloc: Global, bytes: &[u8]) -> Result<(i64, &[u8
     }
 }
 
-// A step, or 1 where the line ends.
+// A step, or 1 if the line ends.
 pub(crate) fn step_argument(alloc: Global, bytes: &[u8]) -> Result<(i64, &[u8]), Stop>
     ensures read { GivesItem (λ x. (x.0, x.1.now)) result (optional_at (pos 1) integer bytes.now) }
     ensures no_more { IfOk result (λ x. length x.1.now ≤ length bytes.now) }
@@ -232,7 +232,7 @@ pub(crate) fn moment_argument(alloc: Global, bytes: &[u8]) -> Result<(u64, &[u8]
     }
 }
 
-// A limit of time, behind the space before it.
+// A ttl, after the space before it.
 pub(crate) fn ttl_choice(alloc: Global, argument: &[u8]) -> Result<(u32, &[u8]), Stop>
     ensures read { GivesItem (λ x. (x.0, x.1.now)) result (choice_at ttl_in argument.now) }
     ensures no_more { IfOk result (λ x. length x.1.now ≤ length argument.now) }
@@ -244,7 +244,7 @@ pub(crate) fn ttl_choice(alloc: Global, argument: &[u8]) -> Result<(u32, &[u8]),
     }
 }
 
-// A limit of time, or 0 where the line ends.
+// A ttl, or 0 if the line ends.
 pub(crate) fn ttl_argument(alloc: Global, bytes: &[u8]) -> Result<(u32, &[u8]), Stop>
     ensures read { GivesItem (λ x. (x.0, x.1.now)) result (optional_at 0 ttl_in bytes.now) }
     ensures no_more { IfOk result (λ x. length x.1.now ≤ length bytes.now) }
@@ -256,7 +256,7 @@ pub(crate) fn ttl_argument(alloc: Global, bytes: &[u8]) -> Result<(u32, &[u8]), 
     ttl_choice(alloc, argument)
 }
 
-// A truth value, or false where the line ends.
+// A boolean, or false if the line ends.
 pub(crate) fn truth_argument(alloc: Global, bytes: &[u8]) -> Result<(bool, &[u8]), Stop>
     ensures read { GivesItem (λ x. (x.0, x.1.now)) result (optional_at false truth bytes.now) }
     ensures no_more { IfOk result (λ x. length x.1.now ≤ length bytes.now) }
@@ -289,7 +289,7 @@ pub(crate) fn null_argument(alloc: Global, bytes: &[u8]) -> Result<&[u8], Stop>
     }
 }
 
-// The keys that are searched for.
+// The keys of a search.
 pub(crate) fn search_argument(alloc: Global, bytes: &[u8]) -> Result<(Option<Pattern>, &[u8]), Stop>
     ensures read { GivesItem (λ x. (x.0, x.1.now)) result (argument_at search_for bytes.now) }
     ensures fewer { IfOk result (λ x. length x.1.now < length bytes.now) }
@@ -302,7 +302,7 @@ pub(crate) fn search_argument(alloc: Global, bytes: &[u8]) -> Result<(Option<Pat
     }
 }
 
-// Fields, or all of them where the line ends.
+// Fields, or all of them if the line ends.
 pub(crate) fn fields_argument(alloc: Global, bytes: &[u8]) -> Result<(Fields, &[u8]), Stop>
     ensures read { GivesItem (λ x. (x.0, x.1.now)) result
         (optional_at all_fields fields bytes.now) }
@@ -319,7 +319,7 @@ pub(crate) fn fields_argument(alloc: Global, bytes: &[u8]) -> Result<(Fields, &[
     }
 }
 
-// How many items a step has at least; 100 where the line ends.
+// The least number of items of a step; 100 if the line ends.
 pub(crate) fn size_argument(alloc: Global, bytes: &[u8]) -> Result<(u32, &[u8]), Stop>
     ensures read { GivesItem (λ x. (x.0, x.1.now)) result
         (optional_at usual_size chunk_size bytes.now) }
@@ -338,7 +338,7 @@ pub(crate) fn size_argument(alloc: Global, bytes: &[u8]) -> Result<(u32, &[u8]),
     }
 }
 
-// A list, or the active rows where the line ends.
+// A list, or the active rows if the line ends.
 pub(crate) fn list_argument(alloc: Global, bytes: &[u8]) -> Result<(RowList, &[u8]), Stop>
     ensures read { GivesItem (λ x. (x.0, x.1.now)) result
         (optional_at Active which_list bytes.now) }

@@ -6,8 +6,8 @@ ghost use Rattle.script_read.specs.Budgets.{events_in, all_events, most_events};
 use crate::script::{Script, Scripts};
 use apcu_model::MOST_EVENTS;
 
-/// How many events the worker of a script may make, its end included, in a cache of so many slots.
-/// None exactly where they are more than 4,194,304, the most that a cache has.
+/// How many events the worker of a script may make, its end included, in a cache of `slots` slots.
+/// None exactly if they are more than 4,194,304, the most that a cache has.
 pub fn budget(slots: u32, script: &Script) -> Option<u32>
     ensures some { IfSome result (λ n. n ≡ events_in slots script.now + 1) }
     ensures few { IfSome result (λ n. n ≤ most_events) }
@@ -24,8 +24,7 @@ pub fn budget(slots: u32, script: &Script) -> Option<u32>
 }
 
 /// How many events the workers of scripts may make, all together and the end of each included, in a
-/// cache of so many slots. None exactly where they are more than 4,194,304, the most that a cache
-/// has.
+/// cache of `slots` slots. None exactly if they are more than 4,194,304, the most that a cache has.
 pub fn event_count(slots: u32, scripts: &Scripts) -> Option<u32>
     ensures some { IfSome result (λ n. n ≡ all_events slots scripts.now) }
     ensures few { IfSome result (λ n. n ≤ most_events) }

@@ -9,10 +9,10 @@ use apcu_model::{Fields, Gen, Keys, List, Pairs, Pattern};
 use php_graph::{Bytes, Graph};
 use std::alloc::{AllocError, Global};
 
-/// A call of a script, as PHP's manual has the functions of APCu.
+/// A call of a script, named after the functions of APCu in the PHP manual.
 #[derive(Drop)]
 pub enum Call {
-    /// `apcu_store` of one key, or `apcu_add` where it is exclusive.
+    /// `apcu_store` of one key, or `apcu_add` if it is exclusive.
     StoreOne {
         key: Bytes,
         value: Graph,
@@ -20,7 +20,7 @@ pub enum Call {
         ttl: u32,
         exclusive: bool,
     },
-    /// `apcu_store` of an array, or `apcu_add` where it is exclusive.
+    /// `apcu_store` of an array, or `apcu_add` if it is exclusive.
     StoreMany {
         pairs: Pairs,
         /// In seconds; 0 is no limit.
@@ -43,33 +43,33 @@ pub enum Call {
     Inc {
         key: Bytes,
         step: i64,
-        /// In seconds, of a row that is new; 0 is no limit.
+        /// In seconds, for a new row; 0 is no limit.
         ttl: u32,
     },
-    /// `apcu_cas`: the integer under the key becomes `set` where it is `expect`.
+    /// `apcu_cas`: the integer under the key becomes `set` if it is `expect`.
     Cas {
         key: Bytes,
         expect: i64,
         set: i64,
     },
-    /// `apcu_entry`: the generator is an entry, and eight lie in one another at most.
+    /// `apcu_entry`: the generator is an entry, and at most eight are nested.
     Entry(Gen),
     /// `apcu_clear_cache`.
     Clear,
-    /// `apcu_enabled`, which asks nothing of the cache.
+    /// `apcu_enabled`, which makes no request to the cache.
     Enabled,
     /// `apcu_key_info`.
     KeyInfo(Bytes),
-    /// `apcu_cache_info`; where it is true, without the lists of rows.
+    /// `apcu_cache_info`; if it is true, without the lists of rows.
     CacheInfo(bool),
-    /// `apcu_sma_info`; where it is true, without the list of gaps.
+    /// `apcu_sma_info`; if it is true, without the list of gaps.
     SmaInfo(bool),
-    /// `APCUIterator`, gone over from its first row to its last one.
+    /// `APCUIterator`, iterated from its first row to its last one.
     Walk {
         /// Which keys match; each one without a pattern.
         search: Option<Pattern>,
         fields: Fields,
-        /// How many items a step has at least, as long as there are as many: the constructor's
+        /// The least number of items of a step, as long as there are as many: the constructor's
         /// `chunk_size`, from 1 to 65,536.
         size: u32,
         list: List,
@@ -93,7 +93,7 @@ pub enum Call {
 }
 
 impl Call {
-    /// How many events the call makes at most, in a cache of so many slots.
+    /// The largest number of events of the call, in a cache of `slots` slots.
     pub fn events(&self, slots: u32) -> u64
         ensures { result ≡ event_bound slots self.now }
     {
@@ -128,7 +128,7 @@ impl Call {
         }
     }
 
-    /// The pattern that the call's keys are to match, if it has one: a pool's, where it is cleared.
+    /// The pattern that the call's keys are to match, if it has one: a pool's, if it is cleared.
     pub fn pattern(&self, alloc: Global) -> Result<Option<Pattern>, AllocError>
         requires { HasRanges self.now }
         ensures { IfOk result (λ made. made ≡ call_pattern self.now) }

@@ -1,4 +1,4 @@
-//! What a value is as an argument.
+//! Values as arguments.
 
 ghost use Rattle.std.specs.Prelude.{◌≡◌, ◌≤◌, true, ◌↔◌, List, [], ◌∷◌, ◌++◌, length, take, Option};
 ghost use Rattle.std.specs.Prelude.{Some, None, IfOk, IfSome, IsSome};
@@ -14,7 +14,7 @@ use itoa::Buffer;
 use php_graph::{Bytes, Child, Graph, Key, Kind};
 use std::alloc::{AllocError, Global};
 
-/// What is asked for: one key, or an array of keys.
+/// The keys of a call: one key, or an array of keys.
 #[derive(Drop)]
 pub(crate) enum Asked {
     One(Bytes),
@@ -41,7 +41,7 @@ pub(crate) fn integer_of(graph: &Graph) -> Option<i64>
     }
 }
 
-// The limit of time that an integer is.
+// The ttl that an integer is.
 pub(crate) fn ttl_of(number: Option<i64>) -> Option<u32>
     ensures { result ≡ option_and_then (from_to 0 4294967295) number }
 {
@@ -62,7 +62,7 @@ pub(crate) fn moment_of(number: Option<i64>) -> Option<u64>
     }
 }
 
-// The truth value that a value is.
+// The boolean that a value is.
 pub(crate) fn truth_of(graph: &Graph) -> Option<bool>
     ensures { result ≡ truth graph.now }
 {

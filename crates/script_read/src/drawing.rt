@@ -15,7 +15,7 @@ use php_graph::{Bytes, Graph, Kind};
 use seg_words::words_in;
 use std::alloc::{AllocError, Global};
 
-// The state behind one more number.
+// The state after one more number.
 pub(crate) fn state_after(state: u64) -> u64
     ensures { result ≡ state_after state }
 {
@@ -48,7 +48,7 @@ fn counter_key(alloc: Global, text: &mut Vec<u8>, n: u64) -> Result<Bytes, Alloc
     Bytes::of(alloc, text.as_slice())
 }
 
-// A string of so many bytes `x`.
+// A string of `len` bytes `x`.
 fn string_of(alloc: Global, len: usize) -> Result<Graph, AllocError>
     requires { len < 200 }
     ensures { IfOk result (λ graph. graph ≡ kinds.Str (replicate len 120) ∷ []) }
@@ -116,8 +116,8 @@ fn script_of(
     Ok(script)
 }
 
-/// The scripts of so many workers, each of so many calls, that a seed stands for: each worker
-/// stores short strings under keys of its own, fetches those of all, and counts on eight counters.
+/// The scripts of `workers` workers with `calls` calls each, made from a seed: each worker stores
+/// short strings under keys of its own, fetches those of all, and counts on eight counters.
 pub fn generate(alloc: Global, seed: u64, workers: u32, calls: u32) -> Result<Scripts, AllocError>
     requires some { 0 < workers }
     requires most { workers ≤ MOST_WORKERS }

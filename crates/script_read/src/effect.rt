@@ -1,4 +1,4 @@
-//! What a line of a script does.
+//! The effect of a line of a script.
 
 ghost use Rattle.std.specs.Prelude.{◌≡◌};
 ghost use Rattle.script_read.specs.Clock.{step_at};
@@ -6,8 +6,8 @@ ghost use Rattle.script_read.specs.Clock.{step_at};
 use crate::call::Call;
 use crate::script::Step;
 
-/// What a line of a script does: it sets the moment of the lines after it, or begins a request, or
-/// it is a call.
+/// The effect of a line of a script: it sets the moment of the lines after it, or begins a request,
+/// or is a call.
 #[derive(Drop)]
 pub(crate) enum Effect {
     Sets(u64),

@@ -1,4 +1,4 @@
-//! Why no scripts were read.
+//! Why scripts were not read.
 
 ghost use Rattle.std.specs.Prelude.{◌≡◌};
 ghost use Rattle.script_read.specs.declared.fault.Stop.TheVariants.{Memory};
@@ -7,7 +7,7 @@ use notation::{Fault, Reason};
 use std::alloc::{AllocError, AllocFailed};
 use thiserror::Error;
 
-/// Why no scripts were read.
+/// Why scripts were not read.
 #[derive(Debug, Drop, Error)]
 pub enum ScriptFault {
     /// The bytes spell no scripts: the first fault from the left, and the place of its byte, from

@@ -9,9 +9,9 @@ use crate::keyword::is_word;
 /// A field of an iterator's items.
 #[derive(Clone, Copy)]
 pub struct Field {
-    /// As a script names it, and as it is printed.
+    /// Its name in scripts and in the output.
     pub name: &'static [u8],
-    /// By which it is chosen.
+    /// The bit by which it is selected.
     pub bit: u16,
 }
 

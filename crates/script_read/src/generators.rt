@@ -1,4 +1,4 @@
-//! The generators of entries: what they are spelled as, and how deep they may lie.
+//! The generators of entries: how they are spelled, and how deep they may be nested.
 
 ghost use Rattle.std.specs.Prelude.{◌≡◌, ℕ, ◌≤◌, ◌<◌, length, IfOk};
 ghost use Rattle.script_read.specs.GenParts.{entry_round};
@@ -14,10 +14,10 @@ use notation::Reason;
 use php_graph::Bytes;
 use std::alloc::{AllocError, Global};
 
-// How many entries may lie inside the line's own.
+// How many entries may be nested inside the line's own.
 const INNER_LEVELS: u32 = 7;
 
-// The byte that is due inside a generator.
+// The expected byte inside a generator.
 #[tactic(auto, unfolding(crate::specs::Reading::separator_at))]
 fn separator(separator: u8, bytes: &[u8]) -> Result<&[u8], Stop>
     ensures read { GivesItem (λ rest. rest.now) result (separator_at separator bytes.now) }
@@ -30,7 +30,7 @@ fn separator(separator: u8, bytes: &[u8]) -> Result<&[u8], Stop>
     }
 }
 
-// The end of an entry, with its limit of time before it where it has one.
+// The end of an entry, with its ttl before it if it has one.
 #[tactic(auto, unfolding(crate::specs::Reading::limit_at))]
 fn limit(alloc: Global, bytes: &[u8]) -> Result<(u32, &[u8]), Stop>
     ensures read { GivesItem (λ x. (x.0, x.1.now)) result (limit_at bytes.now) }
@@ -66,7 +66,7 @@ fn literal(alloc: Global, bytes: &[u8]) -> Result<(Gen, &[u8]), Stop>
     }
 }
 
-// An entry of this key and limit of time round a generator.
+// An entry of this key and ttl around a generator.
 #[tactic(auto, using(crate::proofs::GenSteps::round_is))]
 pub(crate) fn entry_round(
     alloc: Global,
@@ -79,8 +79,8 @@ pub(crate) fn entry_round(
     Ok(Gen::entry(key, ttl, Box::new(alloc, inner)?))
 }
 
-// A generator, where so many entries may lie in one another. Each call inside it has a level less,
-// so there are no more calls than levels.
+// A generator in which `levels` entries may be nested. Each call inside it has a level less, so
+// there are no more calls than levels.
 fn generator(alloc: Global, levels: u32, bytes: &[u8]) -> Result<(Gen, &[u8]), Stop>
     ensures read { GivesItem (λ x. (x.0, x.1.now)) result (generator_at levels bytes.now) }
     ensures fewer { IfOk result (λ x. length x.1.now < length bytes.now) }
@@ -100,7 +100,7 @@ fn generator(alloc: Global, levels: u32, bytes: &[u8]) -> Result<(Gen, &[u8]), S
     Ok((made, rest))
 }
 
-// A generator that is due in a line.
+// A generator that is expected in a line.
 pub(crate) fn gen_argument(alloc: Global, bytes: &[u8]) -> Result<(Gen, &[u8]), Stop>
     ensures read { GivesItem (λ x. (x.0, x.1.now)) result (gen_argument_at bytes.now) }
     ensures fewer { IfOk result (λ x. length x.1.now < length bytes.now) }

@@ -1,4 +1,4 @@
-//! Lines that ask what the cache knows of itself.
+//! Lines that request information about the cache.
 
 ghost use Rattle.std.specs.Prelude.{ℕ, ◌<◌, List, length, IfOk};
 ghost use Rattle.script_read.specs.declared.call.Call.TheVariants.{CacheInfo, SmaInfo};

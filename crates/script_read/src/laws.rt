@@ -20,7 +20,7 @@ ghost use Rattle.script_read.specs.Play.{next_of, Asks};
 use notation::readings_are_spellings;
 
 /// Scripts that are read are those that the bytes spell, and those that bytes spell are read. So
-/// bytes spell one list of scripts at most.
+/// bytes spell at most one list of scripts.
 pub fn readings_are_scripts()
     ensures takes { ScriptsTake }
     ensures again { ScriptsAgain }
@@ -30,7 +30,7 @@ pub fn readings_are_scripts()
 }
 
 /// Scripts that bytes spell are in range: the arguments of all their calls are, and the keys that
-/// the calls name are of bytes from 0 to 255. So they are under each clock.
+/// the calls name consist of bytes from 0 to 255. This holds under each clock.
 pub fn scripts_are_ranged()
     ensures ranged { (bytes : List ℕ) (scripts : List (List Step)) → AreScripts bytes scripts
         → AreRanged scripts }
@@ -42,7 +42,7 @@ pub fn scripts_are_ranged()
         → HaveByteKeys (all_timed clock scripts) }
 {}
 
-/// A call asks no more often than its events are counted.
+/// A call makes no more requests than its events are counted.
 pub fn calls_ask_few()
     ensures { (conf : Conf) (call : Call) (replies : List Reply) (request : Request)
         → next_of conf call replies ≡ Asks request → length replies < event_bound conf.slots call }

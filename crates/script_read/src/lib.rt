@@ -1,4 +1,4 @@
-//! Scripts: what they are spelled as, how they are read, and what a worker asks next.
+//! Scripts: how they are spelled and read, and what a worker requests next.
 #![tactic(auto)]
 
 mod arguments;

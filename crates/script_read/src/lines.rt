@@ -26,7 +26,7 @@ use apcu_model::MOST_WORKERS;
 use notation::Reason;
 use std::alloc::Global;
 
-// What a line with a moment does: it begins a request, or sets the moment alone.
+// The effect of a line with a moment: it begins a request, or only sets the moment.
 fn timing(begins: bool, t: u64) -> Effect
     ensures { result ≡ timing begins t }
 {
@@ -121,8 +121,8 @@ pub(crate) fn word_len(bytes: &[u8]) -> usize
     bytes.len()
 }
 
-// Whether a byte ends a word, by the byte: all but letters and `_` do. Each byte of a word is asked
-// for, and a row is quicker than three ranges.
+// Whether a byte ends a word, by the byte: all except letters and `_` do. Each byte of a word is
+// tested, and a table is faster than three ranges.
 static ENDS_WORD: [bool; 256] = [
     true, true, true, true, true, true, true, true, true, true, true, true, true, true, true, true,
     true, true, true, true, true, true, true, true, true, true, true, true, true, true, true, true,
@@ -149,7 +149,7 @@ fn ends_word(byte: u8) -> bool
     ENDS_WORD[byte as usize]
 }
 
-// The line `worker`, where so many scripts have begun.
+// The line `worker`, after `begun` scripts have begun.
 pub(crate) fn worker<'a>(begun: u32, line: &'a [u8], behind: &'a [u8]) -> Result<&'a [u8], Stop>
     requires { behind.now ≡ behind_word line.now }
     ensures read { GivesItem (λ rest. rest.now) result (worker_at begun line.now) }
@@ -163,7 +163,7 @@ pub(crate) fn worker<'a>(begun: u32, line: &'a [u8], behind: &'a [u8]) -> Result
     }
 }
 
-// Any other line, where so many scripts have begun.
+// Any other line, after `begun` scripts have begun.
 pub(crate) fn line<'a>(
     alloc: Global,
     begun: u32,

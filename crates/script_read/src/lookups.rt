@@ -1,4 +1,4 @@
-//! Lines that look for keys, or drop them.
+//! Lines that look up keys, or delete them.
 
 ghost use Rattle.std.specs.Prelude.{ℕ, ◌<◌, List, codes, length, IfOk};
 ghost use Rattle.script_read.specs.Arguments.{asked_of};
@@ -13,7 +13,7 @@ use crate::effect::Effect;
 use crate::fault::Stop;
 use std::alloc::Global;
 
-// What is asked for, and the end of the line.
+// The keys of the call, and the end of the line.
 fn asked(alloc: Global, bytes: &[u8]) -> Result<(Asked, &[u8]), Stop>
     ensures read { GivesItem (λ x. (x.0, x.1.now)) result (last_argument_at asked_of bytes.now) }
     ensures fewer { IfOk result (λ x. length x.1.now < length bytes.now) }

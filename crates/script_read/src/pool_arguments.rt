@@ -178,7 +178,7 @@ pub(crate) fn own_pairs_argument(alloc: Global, bytes: &[u8]) -> Result<(Pairs, 
     }
 }
 
-// A value, or a null where the line ends.
+// A value, or a null if the line ends.
 pub(crate) fn default_argument(alloc: Global, bytes: &[u8]) -> Result<(Graph, &[u8]), Stop>
     ensures read { GivesItem (λ x. (x.0, x.1.now)) result
         (optional_at null_value any_value bytes.now) }
@@ -190,7 +190,7 @@ pub(crate) fn default_argument(alloc: Global, bytes: &[u8]) -> Result<(Graph, &[
     value_argument(alloc, bytes)
 }
 
-// A time to live, or none where the line ends.
+// A time to live, or none if the line ends.
 pub(crate) fn own_ttl_argument(alloc: Global, bytes: &[u8]) -> Result<(Option<i64>, &[u8]), Stop>
     ensures read { GivesItem (λ x. (x.0, x.1.now)) result (optional_at None own_ttl bytes.now) }
     ensures no_more { IfOk result (λ x. length x.1.now ≤ length bytes.now) }

@@ -25,7 +25,7 @@ use php_graph::{Bytes, Graph};
 use simple_pool::{PoolAsk, PoolCall};
 use std::alloc::Global;
 
-// A value is set for a time to live, or without one for ever.
+// A value is set with a time to live, or without one and then without limit.
 fn set_ask(key: Bytes, value: Graph, ttl: Option<i64>) -> PoolAsk
     requires key { is_good_key key ≡ true }
     requires ttl { IfSome ttl (λ n. is_good_ttl n ≡ true) }

@@ -59,14 +59,14 @@ fn read(alloc: Global, bytes: &[u8]) -> Result<Scripts, ScriptFault>
     }
 }
 
-/// Reads the scripts that all of the bytes spell, one for each worker: none where there are no
-/// bytes, and `MOST_WORKERS` at most. Else the answer is the first fault from the left, with the
-/// place of its byte.
+/// Reads the scripts that all of the bytes spell, one for each worker: none if there are no bytes,
+/// and at most `MOST_WORKERS`. Otherwise the error is the first fault from the left, with the place
+/// of its byte.
 pub fn read_scripts(alloc: Global, bytes: &[u8]) -> Result<Scripts, ScriptFault>
     requires { length bytes.now ≤ LONGEST_INPUT }
-    // What is read is spelled so.
+    // What is read is what the bytes spell.
     ensures found { IfOk result (AreScripts bytes.now) }
-    // What is spelled so is read, unless memory runs out, and nothing else is spelled so.
+    // What the bytes spell is read, unless memory runs out, and they spell nothing else.
     ensures only { (scripts : List (List Step)) → AreScripts bytes.now scripts
         → MatchResult result (λ read. read ≡ scripts) (λ e. e ≡ ScriptFault.Memory) }
     // It is what reading from left to right gives: the scripts, or the first fault.

@@ -18,11 +18,10 @@ use std::marker::Model;
 /// A call with its moments, in seconds.
 #[derive(Drop)]
 pub struct Step {
-    /// At which it is made: that of the last line `time` or `request` before it, 0 where there is
+    /// At which it is made: that of the last line `time` or `request` before it, 0 if there is
     /// none.
     pub t: u64,
-    /// At which its request began: that of the last line `request` before it, 0 where there is
-    /// none.
+    /// At which its request began: that of the last line `request` before it, 0 if there is none.
     pub start: u64,
     pub call: Call,
 }
@@ -70,7 +69,7 @@ impl Script {
         }
     }
 
-    /// Adds a step at the end; without memory the script stays as it was.
+    /// Adds a step at the end; without memory the script is unchanged.
     pub fn push(&mut self, step: Step) -> Result<(), AllocError>
         requires moment { IsInTime step }
         requires ranges { IsRanged step }
@@ -81,7 +80,7 @@ impl Script {
         Ok(())
     }
 
-    /// How many steps there are.
+    /// The number of steps.
     pub fn len(&self) -> u32
         ensures { result ≡ length self.now }
     {
@@ -140,7 +139,7 @@ impl Scripts {
         }
     }
 
-    /// How many scripts there are.
+    /// The number of scripts.
     pub fn len(&self) -> u32
         ensures { result ≡ length self.now }
     {
@@ -162,7 +161,7 @@ impl Scripts {
         &self.scripts[worker as usize]
     }
 
-    /// Takes the last script away.
+    /// Removes the last script, and returns it.
     pub fn pop(&mut self) -> Option<Script>
         ensures last { self.old ≡ self.new ++ option_to_list result }
         ensures none { IfNone result (self.old ≡ []) }
@@ -170,7 +169,7 @@ impl Scripts {
         self.scripts.pop()
     }
 
-    /// The script of one more worker; without memory the scripts stay as they were.
+    /// The script of one more worker; without memory the scripts are unchanged.
     pub fn push(&mut self, script: Script) -> Result<(), AllocError>
         requires { length self.old < MOST_WORKERS }
         ensures { self.new ≡ (if is_ok result then self.old ++ script ∷ [] else self.old) }
@@ -179,7 +178,7 @@ impl Scripts {
         Ok(())
     }
 
-    // The script of one more worker begins; without memory the scripts stay as they were.
+    // The script of one more worker begins; without memory the scripts are unchanged.
     pub(crate) fn begin(&mut self, alloc: Global) -> Result<(), AllocError>
         requires { length self.old < MOST_WORKERS }
         ensures { self.new ≡ (if is_ok result then self.old ++ [] ∷ [] else self.old) }
@@ -188,7 +187,7 @@ impl Scripts {
         Ok(())
     }
 
-    // The last script has one step more; without memory it stays as it was.
+    // The last script gets one more step; without memory it is unchanged.
     pub(crate) fn add(&mut self, step: Step) -> Result<(), AllocError>
         requires moment { IsInTime step }
         requires ranges { IsRanged step }

@@ -1,4 +1,4 @@
-//! What a value is as an argument of an iterator.
+//! Values as arguments of an iterator.
 
 ghost use Rattle.std.specs.Prelude.{◌≡◌, ◌≤◌, ◌<◌, length, option_map, IfOk, IfSome};
 ghost use Rattle.script_read.specs.Calls.{most_items};
@@ -13,7 +13,7 @@ use apcu_model::{Fields, List, Pattern};
 use php_graph::{Bytes, Child, Graph, Kind};
 use std::alloc::{AllocError, Global};
 
-// What stands between the first `/` and the last one, and whether letters match in either case.
+// The text between the first `/` and the last one, and whether letters match in either case.
 fn slashed(text: &[u8]) -> Option<(&[u8], bool)>
     ensures is { option_map (λ p. record { text = p.0.now; fold = p.1 }) result
         ≡ slashed text.now }
@@ -43,7 +43,7 @@ fn pattern_of(alloc: Global, text: &Bytes) -> Result<Option<Pattern>, AllocError
     }))
 }
 
-// The keys that a value is a search for.
+// The search that a value is.
 pub(crate) fn search_of(alloc: Global, graph: &Graph) -> Result<Option<Option<Pattern>>, AllocError>
     ensures { IfOk result (λ made. made ≡ search_for graph.now) }
 {
@@ -84,7 +84,7 @@ pub(crate) fn fields_of(graph: &Graph) -> Option<Fields>
     Some(Fields(bits))
 }
 
-// How many items a value says.
+// The number of items that a value is.
 pub(crate) fn chunk_size_of(graph: &Graph) -> Option<u32>
     ensures is { result ≡ chunk_size graph.now }
     ensures some { IfSome result (λ size. 0 < size) }

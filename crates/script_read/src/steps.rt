@@ -11,7 +11,7 @@ use crate::script::{Script, Step};
 use std::alloc::{AllocError, Global};
 use std::marker::Model;
 
-/// A step, or where one is.
+/// A step, or a reference to one.
 pub trait AsStep {
     ghost use Rattle.script_read.specs.declared.script.Step.{Step};
 
@@ -48,7 +48,7 @@ pub trait Steps {
     // Those that are still to come.
     ghost to_come: { Self → List Step };
 
-    /// How many are to come.
+    /// The number of steps to come.
     fn len(&self) -> u32
         ensures { result ≡ length (to_come self.now) };
 
@@ -65,7 +65,7 @@ pub trait Steps {
 #[derive(Drop)]
 pub struct ScriptSteps<'a> {
     script: &'a Script,
-    // How many.
+    // Their number.
     left: u32,
 }
 
@@ -114,11 +114,11 @@ impl<'a> Steps for ScriptSteps<'a> {
 pub struct DrawnSteps {
     worker: u64,
     workers: u64,
-    // How many are to come.
+    // The number of steps to come.
     left: u32,
-    // What the last draw left.
+    // The state after the last draw.
     state: u64,
-    // Serves all keys that are made.
+    // Reused for all keys that are made.
     text: Vec<u8>,
 }
 

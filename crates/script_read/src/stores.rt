@@ -31,7 +31,7 @@ pub(crate) fn store(alloc: Global, exclusive: bool, bytes: &[u8]) -> Result<(Eff
     }
 }
 
-// The value of a key, and a limit of time.
+// The value of a key, and a ttl.
 fn store_one(
     alloc: Global,
     exclusive: bool,
@@ -54,7 +54,7 @@ fn store_one(
     bare(call, rest)
 }
 
-// What follows an array of keys with their values: a null, and a limit of time.
+// What follows an array of keys with their values: a null, and a ttl.
 fn store_many(
     alloc: Global,
     exclusive: bool,
