@@ -1,4 +1,4 @@
--- What one worker of many asks for one call, in some events of a history.
+-- The requests of one worker of many for one call, in some events of a history.
 use Rattle.std.specs.Prelude.{ℕ, List, map, Option, None}
 use Rattle.apcu_model.specs.declared.conf.Conf.{Conf}
 use Rattle.apcu_model.specs.declared.request.Event.{Event}
@@ -17,7 +17,7 @@ wanted_by conf t call replies = continued t (λ others. None) (next_of conf call
 abbrev pub replies_in : Conf → List Event → List Event → ℕ → List Reply
 replies_in conf before events w = own_replies_from w (stage_of conf before) events
 
--- what the worker asks in these events is what the call wants, in turn, after their replies
+-- the worker's requests in these events are what the call wants, in turn, after their replies
 abbrev pub IsAskedIn : Conf → ℕ → Call → List Event → List Event → ℕ → Type 0
 IsAskedIn conf t call before events w =
     AreInTurn (wanted_by conf t call) (map wish_in (events_of w events))

@@ -20,12 +20,12 @@ abbrev pub steps_on : List ℕ → List Event → List ℤ
 steps_on key [] = []
 steps_on key (e ∷ events) = increments_in key e.request ++ steps_on key events
 
--- an integer counts on by some steps, each in 64 bits
+-- an integer counted up by some steps, each in 64 bits
 abbrev pub counted_up : ℤ → List ℤ → ℤ
 counted_up n [] = n
 counted_up n (step ∷ steps) = counted_up (sum_of n step) steps
 
--- a compare-and-swap on the key that is answered yes, as the cache stands
+-- a compare-and-swap on the key that succeeds in this cache
 abbrev pub is_swap : List ℕ → ℕ → Request → Cache → Bool
 is_swap key t (requests.Cas k expect set) c = bytes_eq k key && is_expected expect (live_row k t c)
 is_swap key t _ c = false

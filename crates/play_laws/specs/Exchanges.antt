@@ -1,5 +1,5 @@
--- What one worker of many asks and is answered in some events of a history, and whether that is a
--- walk.
+-- The requests and replies of one worker of many in some events of a history, and whether they are
+-- a walk.
 use Rattle.std.specs.Prelude.{◌≡◌, ℕ, ◌==◌, cond, List, [], ◌∷◌, map, Option}
 use Rattle.std.specs.List.{flat_map}
 use Rattle.apcu_model.specs.declared.conf.Conf.{Conf}
@@ -15,8 +15,8 @@ use Rattle.apcu_model.specs.declared.searching.Fields.{Fields}
 use Rattle.apcu_model.specs.History.{Stage, stage_of, reply_in, after_event}
 use Rattle.play_laws.specs.Walks.{WalkStep, chunk_keys}
 
--- An event as its worker sees it: the cache before it and its moment, what was asked, and the reply
--- of one thread at its place.
+-- An event as its worker sees it: the cache before it and its moment, the request, and the reply of
+-- the single-threaded cache at its place.
 pub record Exchange : Type 0 where
   pub step : WalkStep
   pub request : Request
@@ -50,7 +50,7 @@ requests_in exchanges = map {A = Exchange} (λ exchange. exchange.request) excha
 abbrev pub answers_in : List Exchange → List Reply
 answers_in exchanges = map {A = Exchange} (λ exchange. exchange.reply) exchanges
 
--- the chunk that a step was answered, as a list of one; no other reply has one
+-- the chunk of the reply to a step, as a list of one; no other reply has one
 abbrev pub chunks_in : Reply → List Chunk
 chunks_in (replies.Chunk chunk) = chunk ∷ []
 chunks_in _ = []
@@ -60,20 +60,20 @@ abbrev pub next_in : Reply → ℕ
 next_in (replies.Chunk chunk) = chunk.next
 next_in _ = 0
 
--- what a walk asks: the first step from a slot on, each later one from the `next` that the one
--- before was answered
+-- the requests of a walk: the first step from a slot on, each later one from the `next` of the
+-- reply to the one before
 abbrev pub walk_requests : Option Pattern → ℕ → Fields → ℕ → List Reply → List Request
 walk_requests wanted size fields from [] = []
 walk_requests wanted size fields from (reply ∷ answers) =
     requests.Chunk wanted from size Active fields
     ∷ walk_requests wanted size fields (next_in reply) answers
 
--- what the worker asks is a walk from the slot 0 on
+-- the worker's requests are a walk from the slot 0 on
 abbrev pub IsWalk : Option Pattern → ℕ → Fields → List Exchange → Type 0
 IsWalk wanted size fields exchanges =
     requests_in exchanges ≡ walk_requests wanted size fields 0 (answers_in exchanges)
 
--- what the worker was answered, step by step, and the keys in it
+-- the replies to the worker, step by step, and the keys in them
 abbrev pub answered_chunks : List Exchange → List Chunk
 answered_chunks exchanges = flat_map chunks_in (answers_in exchanges)
 

@@ -1,4 +1,4 @@
--- The events that a journal tells.
+-- The events of a journal.
 use Rattle.std.specs.Prelude.{List, [], ◌∷◌, Some, unwrap_or}
 use Rattle.std.specs.Option.{option_and_then}
 use Rattle.apcu_model.specs.declared.conf.Conf.{Conf}
@@ -7,7 +7,7 @@ use Rattle.apcu_model.specs.declared.journal.Mark.{Mark}
 use Rattle.script_read.specs.declared.script.Step.{Step}
 use Rattle.script_read.specs.Play.{Play, wish_of, event_of, after_wish}
 
--- each mark's event in the play that it goes on from, as far as marks can be played
+-- each mark's event in the play from which it continues, as far as marks can be played
 abbrev pub events_from : Conf → List (List Step) → Play → List Mark → List Event
 events_from conf scripts p [] = []
 events_from conf scripts p (mark ∷ marks) =

@@ -33,12 +33,12 @@ wishes_of_looks =
 abbrev pub wish_to_end : Wish
 wish_to_end = wish_now requests.Retire
 
--- how many events of a worker a journal has
+-- the number of events of a worker in a journal
 abbrev pub times_marked : ℕ → List Mark → ℕ
 times_marked worker marks = count_by (λ (mark : Mark). mark.worker == worker) marks
 
--- Scripts of so many calls, each of which is one event: before any event of worker 0 that is not of
--- its own calls, every other worker has made all its events, its end too.
+-- Scripts of this many calls, each of which is one event: before any event of worker 0 that is not
+-- of its own calls, every other worker has made all its events, its end too.
 abbrev pub IsObservedLast : ℕ → ℕ → List Mark → Type 0
 IsObservedLast workers calls journal =
     (before after : List Mark) (mark : Mark) → journal ≡ before ++ mark ∷ after

@@ -20,14 +20,14 @@ events-append w (e ∷ es) more = go (e.worker == w) (events-append w es more)
     go true h = ap (λ (l : List Event). e ∷ l) h
     go false h = h
 
--- the item at a place, and what comes behind it
+-- the item at a place, and what comes after it
 pub drop_item : {A : Type 0} (xs : List A) (i : ℕ) (x : A) → slice_get xs i ≡ Some x
     → drop i xs ≡ x ∷ drop (i + 1) xs
 drop_item xs i x is =
     drop_more xs i x (slice_get_within xs i x is)
     ∙ ap (λ y. y ∷ drop (i + 1) xs) (get_or_from_slice_get xs i x x is)
 
--- the item behind a first part
+-- the item after a first part
 pub get_behind : {A : Type 0} (xs : List A) (y : A) (ys : List A)
     → slice_get (xs ++ y ∷ ys) (length xs) ≡ Some y
 get_behind [] y ys = refl

@@ -1,4 +1,4 @@
--- What is told of a play of generated scripts in the end, and what that has to be.
+-- The summary of a play of generated scripts, and what it has to be.
 use Rattle.std.specs.Prelude.{◌≡◌, ℕ, ℤ, pos, ◌+◌, ◌*◌, ◌≤◌, ◌==◌, cond, nat_lt, Bool, true, false}
 use Rattle.std.specs.Prelude.{not, List, [], ◌∷◌, ◌++◌, map, codes, Option, Some, slice_get}
 use Rattle.std.specs.Prelude.{sum_by, count_by}
@@ -15,15 +15,15 @@ use Rattle.apcu_model.specs.Conf.{IsGood}
 use Rattle.script_read.specs.Play.{Play, replies_of}
 use Rattle.script_read.specs.GeneratedScripts.{Draw, Fetches, Stores, Counts}
 
--- A shape in which generated scripts never want for room: one segment, of 8 MB at least, and not so
--- many slots that little of it is left.
+-- A shape in which generated scripts never run out of room: one segment, of at least 8 MB, and not
+-- so large a number of slots that little of it is left.
 pub record IsLarge (conf : Conf) : Type 0 where
   pub good : IsGood conf
   pub one : conf.segments ≡ 1
   pub words : 1048576 ≤ conf.words
   pub slots : conf.slots ≤ 4096
 
--- ---- what is told
+-- ---- the summary
 
 pub record Summary : Type 0 where
   pub inserts : ℕ
@@ -39,7 +39,7 @@ abbrev pub number_found : Option Reply → ℤ
 number_found (Some (answers.Found graph)) = first_number graph
 number_found _ = pos 0
 
--- of a play: the cache's count, and what the observer found, after so many calls of worker 0
+-- of a play: the cache's counter, and what the observer found, after this many calls of worker 0
 abbrev pub summary_of : ℕ → Play → Summary
 summary_of calls p = record {
   inserts = p.stage.cache.inserts;
@@ -59,7 +59,7 @@ summary_text workers calls s =
     ++ codes "\n" ++ codes "inserts " ++ decimal s.inserts ++ codes "\n"
     ++ counter_lines 0 s.counters
 
--- a store or an increment that is answered no: nothing could be stored
+-- a store or an increment that fails: nothing could be stored
 abbrev pub is_no : Reply → Bool
 is_no (answers.Flag stored) = not stored
 is_no answers.NoNumber = true

@@ -14,19 +14,19 @@ use Rattle.apcu_model.specs.Cache.{Cache, has_key}
 use Rattle.apcu_model.specs.Rows.{are_apart}
 use Rattle.apcu_model.specs.Chunks.{is_item, chunk_of}
 
--- A step: the cache as it then stands, and the moment in seconds. Nothing is said of what is done
--- to the cache between two steps.
+-- A step: the cache at that time, and the moment in seconds. Nothing is said of what is done to the
+-- cache between two steps.
 pub record WalkStep : Type 0 where
   pub cache : Cache
   pub t : ℕ
 
--- the caches are of one shape, and no two rows of a cache have one key
+-- the caches are of one shape, and no two rows of a cache have the same key
 abbrev pub AreSteps : Conf → List WalkStep → Type 0
 AreSteps conf [] = Unit {0}
 AreSteps conf (step ∷ steps) =
     (step.cache.conf ≡ conf) × (are_apart step.cache.rows ≡ true) × AreSteps conf steps
 
--- what the steps give: the first from a slot on, each later one from the `next` of the one before
+-- what the steps return: the first from a slot on, each later one from the `next` of the one before
 abbrev pub walk_chunks : Option Pattern → ℕ → Fields → ℕ → List WalkStep → List Chunk
 walk_chunks wanted size fields from [] = []
 walk_chunks wanted size fields from (step ∷ steps) =
@@ -37,15 +37,15 @@ walk_chunks wanted size fields from (step ∷ steps) =
 abbrev pub chunk_keys : Chunk → List (List ℕ)
 chunk_keys chunk = map {A = ItemRow} (λ item. item.key) chunk.items
 
--- the keys that a walk from the slot 0 on gives, in order
+-- the keys that a walk from the slot 0 on returns, in order
 abbrev pub walk_keys : Option Pattern → ℕ → Fields → List WalkStep → List (List ℕ)
 walk_keys wanted size fields steps = flat_map chunk_keys (walk_chunks wanted size fields 0 steps)
 
--- how often a key stands among some
+-- how often a key occurs among some
 abbrev pub times_given : List ℕ → List (List ℕ) → ℕ
 times_given key keys = count_by (λ k. bytes_eq k key) keys
 
--- no step has reached the end, so the walk goes on
+-- no step has reached the end, so the walk continues
 abbrev pub is_under_way : ℕ → List Chunk → Bool
 is_under_way slots chunks = list_all (λ (chunk : Chunk). not (chunk.next == slots)) chunks
 

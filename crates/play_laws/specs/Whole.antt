@@ -1,4 +1,4 @@
--- Histories in which workers play their scripts, and the play that such a history tells.
+-- Histories in which workers play their scripts, and the play of such a history.
 use Rattle.std.specs.Prelude.{◌≡◌, ℕ, ◌+◌, ◌≤◌, true, List, [], ◌∷◌, length, map, slice_get, Some}
 use Rattle.apcu_model.specs.declared.conf.Conf.{Conf}
 use Rattle.apcu_model.specs.declared.request.Event.{Event}
@@ -9,8 +9,8 @@ use Rattle.script_read.specs.declared.script.Step.{Step}
 use Rattle.script_read.specs.Play.{Play}
 use Rattle.play_laws.specs.Own.{own_replies, wish_in, HasPlayed}
 
--- Each mask is legal, each worker asks in turn what its script wants after its own replies, until
--- nothing more is wanted, and nobody else asks.
+-- Each mask is legal, each worker makes in turn the requests that its script wants after its own
+-- replies, until nothing more is wanted, and no other worker makes requests.
 pub record IsPlayedOut (conf : Conf) (scripts : List (List Step)) (history : List Event)
     : Type 0 where
   pub legal : all_legal (length scripts) (start_of conf) history ≡ true
@@ -24,7 +24,7 @@ replies_from conf w [] history = []
 replies_from conf w (script ∷ scripts) history =
     own_replies conf w history ∷ replies_from conf (w + 1) scripts history
 
--- the play that a history tells
+-- the play of a history
 abbrev pub play_of : Conf → List (List Step) → List Event → Play
 play_of conf scripts history = record {
   stage = stage_of conf history;

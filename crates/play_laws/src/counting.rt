@@ -1,4 +1,4 @@
-//! What counters come to, and what the summary of generated scripts says.
+//! The values of counters, and the summary of generated scripts.
 
 ghost use Rattle.std.specs.Prelude.{◌≡◌, ℕ, ℤ, ◌<◌, ◌≤◌, ◌+◌, ◌*◌, pos, ◌+ℤ◌, false, List, [], ◌∷◌};
 ghost use Rattle.std.specs.Prelude.{◌++◌, length, Contains, IsTrue, Some, slice_get};
@@ -33,12 +33,12 @@ ghost use Rattle.play_laws.specs.JournalEvents.{events_from};
 use apcu_model::rows_stay_apart;
 use script_read::scripts_are_ranged;
 
-/// Between two points of a history at which the row of a key is the same one, its integer counts on
-/// by the steps of all increments on the key, as long as no compare-and-swap sets it: whatever else
-/// is done meanwhile, by whomever. So it does between two points of any legal journal: of scripts
-/// that bytes spell, under either clock, in a cache of a good shape; or else of any in range, in a
-/// cache that has a slot at least, since with none no row would ever go for want of room. Where all
-/// fit 64 bits, it counts on by their sum modulo 2^64.
+/// Between two points of a history at which the row of a key is the same one, its integer is
+/// counted up by the steps of all increments on the key, as long as no compare-and-swap sets it,
+/// whatever else any worker does meanwhile. The same holds between two points of any legal journal:
+/// of scripts that bytes spell, under either clock, in a cache of a good shape; or of any in range,
+/// in a cache that has at least one slot, since without slots no row would ever be dropped to make
+/// room. If all steps fit 64 bits, it is counted up by their sum modulo 2^64.
 pub fn counters_count()
     ensures counted { (conf : Conf) (before between : List Event) (first second : Row) (n : ℤ)
         → 1 ≤ conf.slots → length (before ++ between) ≤ MOST_EVENTS
@@ -76,9 +76,9 @@ pub fn counters_count()
 }
 
 /// Generated scripts in a cache of one segment of at least 8 MB with at most 4096 slots. No play of
-/// them has to drop all rows, and no store or increment in it is answered no. Every journal that is
-/// legal and complete, with the observer's looks last, gives the same summary: it counts each store
-/// and each counter that was begun, and has of each counter the sum of its steps.
+/// them has to drop all rows, and no store or increment in it fails. Every journal that is legal
+/// and complete, with the observer's looks last, has the same summary: it counts each store and
+/// each counter that was created, and has for each counter the sum of its steps.
 pub fn summaries_agree()
     ensures no_expunge { (conf : Conf) (seed workers calls : ℕ) (journal : List Mark) (p : Play)
         → IsLarge conf → 1 ≤ workers → workers ≤ MOST_WORKERS
@@ -101,9 +101,9 @@ pub fn summaries_agree()
         → summary_of calls p ≡ summary_due (draws_of seed workers calls) }
 {}
 
-/// What generated scripts want depends on nothing but how many replies there were: the draws in
-/// turn, then the observer's looks, then the end. All their calls are made at the moment 0, so they
-/// are the same under each clock.
+/// What generated scripts want depends only on the number of replies: the draws in turn, then the
+/// observer's looks, then the end. All their calls are made at the moment 0, so they are the same
+/// under each clock.
 pub fn generated_wishes()
     ensures others { (conf : Conf) (worker : ℕ) (draws : List Draw) (replies : List Reply)
         → wanted conf (steps_of_draws worker draws) replies
@@ -117,8 +117,8 @@ pub fn generated_wishes()
         all_timed clock scripts ≡ scripts }
 {}
 
-/// Where worker 0 has made its own calls and has seen all events of the others, and then only it
-/// makes events, its looks come last.
+/// If worker 0 has made its own calls and has seen all events of the others, and then only it makes
+/// events, its looks come last.
 pub fn looks_come_last()
     ensures { (workers calls : ℕ) (seen rest : List Event)
         → length (events_of 0 seen) ≡ calls

@@ -1,4 +1,4 @@
-//! Which histories of events are plays, and what one event more changes.
+//! Which histories of events are plays, and what one more event changes.
 
 ghost use Rattle.std.specs.Prelude.{◌≡◌, ℕ, ◌<◌, ◌==◌, cond, List, [], ◌∷◌, ◌++◌, length, Some};
 ghost use Rattle.apcu_model.specs.declared.conf.Conf.{Conf};
@@ -10,9 +10,9 @@ ghost use Rattle.script_read.specs.Play.{IsLegal, IsCompletePlay, played, replie
 ghost use Rattle.play_laws.specs.Own.{own_replies};
 ghost use Rattle.play_laws.specs.Whole.{IsPlayedOut, play_of};
 
-/// What comes of one event more, and of more events of others: a worker's own replies grow by the
-/// reply of its own event alone, which is that of one thread at the event's place. There are as
-/// many of them as the worker has events.
+/// What follows from one more event, and from more events of others: a worker's own replies grow
+/// only by the reply of its own event, which is that of the single-threaded cache at the event's
+/// place. There are as many of them as the worker has events.
 pub fn one_event_own()
     ensures more { (conf : Conf) (w : ℕ) (history : List Event) (e : Event)
         → own_replies conf w (history ++ e ∷ [])
@@ -25,10 +25,11 @@ pub fn one_event_own()
         → length (own_replies conf w history) ≡ length (events_of w history) }
 {}
 
-/// A history of events in which each mask is legal, each worker asks in turn what its script wants
-/// after its own replies, until nothing more is wanted, and nobody else asks, is a play: that of
-/// the journal of its marks. The play ends in the cache that one thread would have after these
-/// events, and each worker was answered its own replies. No worker wants anything after it.
+/// A history of events in which each mask is legal, each worker makes in turn the requests that its
+/// script wants after its own replies, until nothing more is wanted, and no other worker makes
+/// requests, is a play: that of the journal of its marks. The play ends in the cache that the
+/// single-threaded one would be after these events, and each worker got its own replies. No worker
+/// wants anything after it.
 pub fn histories_are_plays()
     ensures play { (conf : Conf) (scripts : List (List Step)) (history : List Event)
         → IsPlayedOut conf scripts history

@@ -1,7 +1,7 @@
-//! Laws of the play of many workers: what each worker asks and is answered in a history of events,
-//! and that such a history is the play that its journal tells; what an iterator gives step by step,
-//! whatever is done to the cache between; what increments on a key come to; and that every play of
-//! generated scripts comes to one summary.
+//! Laws of the play of many workers: the requests and replies of each worker in a history of
+//! events, and that such a history is the play of its journal; what an iterator returns step by
+//! step, whatever is done to the cache between; the sum of increments on a key; and that every play
+//! of generated scripts has the same summary.
 #![tactic(auto)]
 
 mod counting;

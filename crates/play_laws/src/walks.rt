@@ -1,4 +1,4 @@
-//! What the steps of an iterator give together, in histories and in journals.
+//! What the steps of an iterator return together, in histories and in journals.
 
 ghost use Rattle.std.specs.Prelude.{◌≡◌, ℕ, ◌<◌, ◌≤◌, List, [], ◌++◌, length, Contains, IsTrue};
 ghost use Rattle.std.specs.Prelude.{Option, None, Some};
@@ -28,10 +28,10 @@ ghost use Rattle.play_laws.specs.Walks.{is_under_way, is_whole_walk, has_item};
 
 use apcu_model::events_keep;
 
-/// What the steps of an iterator over the active rows give together, whatever is done to the cache
-/// between them: no key twice, however far the walk has come; and once it has come to the end,
-/// exactly once each key that was present, matching and not hard expired at each step. Of a key
-/// that came or went meanwhile it may give one or none.
+/// What the steps of an iterator over the active rows return together, whatever is done to the
+/// cache between them: no key twice, however far the walk has come; and once it has reached the
+/// end, exactly once each key that was present, matching and not hard expired at each step. For a
+/// key that was added or dropped meanwhile it may return one item or none.
 pub fn walks_give_once()
     ensures once { (wanted : Option Pattern) (size : ℕ) (fields : Fields) (conf : Conf)
         (steps : List WalkStep) (key : List ℕ) → AreSteps conf steps
@@ -43,10 +43,10 @@ pub fn walks_give_once()
         → times_given key (walk_keys wanted size fields steps) ≡ 1 }
 {}
 
-/// Where the steps of a walk go. Each of them, if it is to give at least one item, gets further as
-/// long as slots are left, so a walk has at most as many steps as there are slots: fewer where it
-/// goes on. What a step gives is of the slots that it passes. Over the removed rows a walk is one
-/// step.
+/// How the steps of a walk advance. Each of them, if it is to return at least one item, gets
+/// further as long as slots are left, so a walk has at most as many steps as there are slots: fewer
+/// if it continues. A step returns rows of the slots that it passes. Over the removed rows a walk
+/// is one step.
 pub fn steps_of_walks()
     ensures further { (wanted : Option Pattern) (from size : ℕ) (fields : Fields) (t : ℕ)
         (c : Cache) → 1 ≤ size → from < c.conf.slots
@@ -70,9 +70,9 @@ pub fn steps_of_walks()
         → length steps ≤ conf.slots }
 {}
 
-/// The same of a worker's walk in a history of many workers, whatever the others do between its
+/// The same for a worker's walk in a history of many workers, whatever the others do between its
 /// steps: `events` come after those of `before`, and the worker's among them are the walk. In every
-/// history the cache keeps its shape, and no two of its rows have one key.
+/// history the cache keeps its shape, and no two of its rows have the same key.
 pub fn walks_in_histories()
     ensures shape { (conf : Conf) (history : List Event)
         → (stage_of conf history).cache.conf ≡ conf }
@@ -97,9 +97,10 @@ pub fn walks_in_histories()
     events_keep();
 }
 
-/// What a worker's call of an iterator over the active rows asks is such a walk: the events of a
-/// worker in which it asks in turn what the call wants after its own replies. Where the call wants
-/// nothing more, and each step was to give at least one item, the walk has come to the end.
+/// The requests of a worker's call of an iterator over the active rows are such a walk: the events
+/// of a worker in which it makes in turn the requests that the call wants after its own replies. If
+/// the call wants nothing more, and each step was to return at least one item, the walk has reached
+/// the end.
 pub fn calls_are_walks()
     ensures walk { (conf : Conf) (t : ℕ) (wanted : Option Pattern) (fields : Fields) (size : ℕ)
         (before events : List Event) (w : ℕ)
@@ -115,11 +116,11 @@ pub fn calls_are_walks()
     events_keep();
 }
 
-/// The same of a legal journal. Between two points of its play a worker makes a call: then what it
-/// asks in the events that the journal tells between them is what the call wants in turn, and it is
-/// answered there what the play says. So an iterator over the active rows gives no key twice; and
-/// once it is done, exactly once each key that was present, matching and not hard expired at each
-/// step.
+/// The same for a legal journal. Between two points of its play a worker makes a call: then its
+/// requests in the events of the journal between them are what the call wants in turn, and the
+/// replies there are those of the play. So an iterator over the active rows returns no key twice;
+/// and once it is done, exactly once each key that was present, matching and not hard expired at
+/// each step.
 pub fn walks_in_journals()
     ensures asked { (conf : Conf) (scripts : List (List Step)) (before during : List Mark)
         (p q : Play) (w : ℕ) (step : Step) → played conf scripts before ≡ Some p
