@@ -1,4 +1,4 @@
--- What a bundle is written as.
+-- How a bundle is written.
 use Rattle.std.specs.Prelude.{◌≡◌, ℕ, List, [], ◌∷◌, ◌++◌, codes}
 use Rattle.std.specs.List.{flat_map, AllByRecursion}
 use Rattle.php_graph.specs.declared.kind.Kind.{Kind}

@@ -1,4 +1,4 @@
--- The script that stores a bundle, and what comes of it.
+-- The script that stores a bundle, and its effect.
 use Rattle.std.specs.Prelude.{◌≡◌, ℕ, if◌then◌else◌, true, false, List, [], ◌∷◌, ◌++◌, length, map}
 use Rattle.std.specs.Prelude.{filter, sum_by, Option, Some, None}
 use Rattle.std.specs.Option.{option_to_list}
@@ -16,7 +16,7 @@ use Rattle.script_read.specs.GeneratedScripts.{step_now}
 use Rattle.script_read.specs.Play.{Play, replies_of, played}
 use Rattle.preload_set.specs.Bundle.{Record}
 
--- each record in turn is stored for ever, over what its key had, at the moment 0
+-- each record in turn is stored without time limit, replacing what its key had, at the moment 0
 abbrev pub loader_of : List Record → List Step
 loader_of records = map (λ r. step_now (StoreOne r.0 r.1 0 false)) records
 
@@ -34,8 +34,8 @@ last_value key (r ∷ records) =
 abbrev pub values_at : List ℕ → Cache → List (List Kind)
 values_at key c = map (λ row. row.graph) (filter (has_key key) c.rows)
 
--- The worker stored all records and ended. No expunge came, and there is one row for each key of
--- the records, with the value of the key's last one, and no other row.
+-- The worker stored all records and ended. There was no expunge, and there is one row for each key
+-- of the records, with the value of the key's last one, and no other row.
 pub record IsLoaded (worker : ℕ) (records : List Record) (p : Play) : Type 0 where
   pub replies : replies_of p worker ≡ map (λ r. Flag true) records ++ Ended ∷ []
   pub expunges : p.stage.cache.expunges ≡ 0

@@ -7,12 +7,12 @@ use Rattle.script_read.specs.Arguments.{key}
 use Rattle.script_read.specs.Reading.{choice_at, separator_at}
 use Rattle.preload_set.specs.Bundle.{Record}
 
--- the byte that is due
+-- the expected byte
 abbrev pub due_byte_at : ℕ → List ℕ → Result (Unit {0} × List ℕ) Fault
 due_byte_at due bytes = separator_at due bytes >>= λ rest. Ok (tt, rest)
 
--- A key, a space, a value and a line feed, with the bytes after them. A key that is no string is at
--- fault once it was read.
+-- A key, a space, a value and a line feed, with the bytes after them. The fault of a key that is no
+-- string is found after it was read.
 abbrev pub record_at : List ℕ → Result (Record × List ℕ) Fault
 record_at bytes = do
   k ← choice_at key bytes
@@ -21,13 +21,13 @@ record_at bytes = do
   rest ← separator_at 10 v.1
   Ok ((k.0, v.0), rest)
 
--- the records up to the end of the bytes, at most so many
+-- the records up to the end of the bytes, at most this many
 unfoldable pub records_at : ℕ → List ℕ → Result (List Record) Fault
 records_at most [] = Ok []
 records_at zero (b ∷ rest) = Ok []
 records_at (suc most) (b ∷ rest) =
     record_at (b ∷ rest) >>= λ r. records_at most r.1 >>= λ more. Ok (r.0 ∷ more)
 
--- All of the bytes. Each record takes a byte at least, so there are no more of them than bytes.
+-- All of the bytes. Each record takes at least one byte, so there are no more of them than bytes.
 abbrev pub bundle_at : List ℕ → Result (List Record) Fault
 bundle_at bytes = records_at (length bytes) bytes

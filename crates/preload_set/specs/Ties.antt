@@ -1,4 +1,4 @@
--- What ties reading to what is written.
+-- How reading is tied to what is written.
 use Rattle.std.specs.Prelude.{◌≡◌, ℕ, List, Ok}
 use Rattle.script_read.specs.Ties.{AreSomeBytes}
 use Rattle.preload_set.specs.Bundle.{Record, AreRecords}
@@ -14,7 +14,7 @@ abbrev pub BundlesAgain : Type 0
 BundlesAgain = (bytes : List ℕ) (records : List Record) → AreRecords bytes records
     → bundle_at bytes ≡ Ok records
 
--- bytes are one bundle at most
+-- bytes are at most one bundle
 abbrev pub BundlesAreOne : Type 0
 BundlesAreOne = (bytes : List ℕ) (a b : List Record) → AreRecords bytes a
     → AreRecords bytes b → a ≡ b

@@ -6,8 +6,8 @@ use apcu_model::Pairs;
 use php_graph::Graph;
 use std::marker::Model;
 
-/// Keys with their values, in the order in which they are to be stored; a key may stand there
-/// several times. Contracts see the list of the records.
+/// Keys with their values, in the order in which they are to be stored; a key may occur several
+/// times. Contracts see the list of the records.
 #[derive(Drop)]
 pub struct Bundle {
     pub(crate) records: Pairs,
@@ -25,7 +25,7 @@ impl Model for Bundle {
 }
 
 impl Bundle {
-    /// How many records there are.
+    /// The number of records.
     pub fn len(&self) -> u32
         ensures { result ≡ length self.now }
     {

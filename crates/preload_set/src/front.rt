@@ -1,4 +1,4 @@
-//! The bundle that the first bytes of an input are.
+//! The bundle at the beginning of an input.
 
 ghost use Rattle.std.specs.Prelude.{◌≡◌, ◌<◌, ◌≤◌, List, take, drop, length, IfOk, MatchResult};
 ghost use Rattle.apcu_model.specs.declared.limits.TheConstants.{LONGEST_INPUT};
@@ -11,8 +11,8 @@ use notation::Reason;
 use script_read::ScriptFault;
 use std::alloc::Global;
 
-/// Reads the bundle that the first so many bytes of an input are, and answers the bytes behind them
-/// with it. An input that has fewer bytes is at fault at its end, whatever its bytes are.
+/// Reads the bundle that the first `len` bytes of an input are, and returns it with the bytes after
+/// them. An input that has fewer bytes is at fault at its end, whatever its bytes are.
 pub fn read_front(alloc: Global, input: &[u8], len: u64) -> Result<(Bundle, &[u8]), ScriptFault>
     requires { length input.now ≤ LONGEST_INPUT }
     // What is read is written in front.

@@ -20,7 +20,7 @@ ghost use Rattle.preload_set.specs.Loader.{loader_of, record_words, IsPlayedFirs
 use notation::readings_are_spellings;
 
 /// Records that are read are those that are written there, and those that are written are read. So
-/// bytes are one bundle at most.
+/// bytes are at most one bundle.
 pub fn readings_are_bundles()
     ensures takes { BundlesTake }
     ensures again { BundlesAgain }
@@ -29,8 +29,8 @@ pub fn readings_are_bundles()
     readings_are_spellings();
 }
 
-/// A loader's script is the same under each clock, makes an event for each record, and searches
-/// for nothing. Beside scripts that are in range, with keys of bytes, it is so too.
+/// A loader's script is the same under each clock, makes an event for each record, and searches for
+/// nothing. The same holds together with scripts that are in range, with keys of bytes.
 pub fn loaders_only_store()
     ensures timed { (clock : Clock) (records : List Record)
         → timed clock (loader_of records) ≡ loader_of records }
@@ -45,9 +45,9 @@ pub fn loaders_only_store()
         → HaveByteKeys (scripts ++ loader_of records ∷ []) }
 {}
 
-/// In a cache of one segment, a bundle whose blocks together fit beside the slots is loaded whole,
-/// where its loader comes first: a journal that can be played begins with the loader's stores and
-/// its end, and whatever follows, the cache after these has just the bundle's values.
+/// In a cache of one segment, a bundle whose blocks together fit after the slots is loaded whole,
+/// if its loader comes first: a journal that can be played begins with the loader's stores and its
+/// end, and whatever follows, the cache after these has exactly the bundle's values.
 pub fn bundles_load()
     ensures { (conf : Conf) (scripts : List (List Step)) (worker : ℕ) (records : List Record)
         (own others : List Mark) (p : Play)

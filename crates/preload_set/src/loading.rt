@@ -9,7 +9,7 @@ use php_graph::{Bytes, Graph};
 use script_read::{Call, Script, Step};
 use std::alloc::{AllocError, Global};
 
-// The call that stores a value for ever, over what the key had.
+// The call that stores a value without time limit, replacing what the key had.
 fn store(alloc: Global, key: &Bytes, value: &Graph) -> Result<Call, AllocError>
     ensures { IfOk result (λ call. call ≡ StoreOne key.now value.now 0 false) }
 {
@@ -21,8 +21,8 @@ fn store(alloc: Global, key: &Bytes, value: &Graph) -> Result<Call, AllocError>
     })
 }
 
-/// The script that stores a bundle: a step for each record in turn, which stores its value for
-/// ever, in place of what the key had before. All moments are 0.
+/// The script that stores a bundle: a step for each record in turn, which stores its value without
+/// time limit, replacing what the key had before. All moments are 0.
 pub fn loader(alloc: Global, bundle: &Bundle) -> Result<Script, AllocError>
     ensures { IfOk result (λ script. script ≡ loader_of bundle.now) }
 {

@@ -30,8 +30,8 @@ fn records(alloc: Global, bytes: &[u8]) -> Result<Pairs, ReadFault>
 }
 
 /// Reads the bundle that all of the bytes are: records one after the other, each a key, a space, a
-/// value and a line feed, where the key is a string and both are in PHP's serialize notation. Else
-/// the answer is the first fault from the left, with the place of its byte. Memory is taken only
+/// value and a line feed. The key is a string, and both are in PHP's serialize notation. Otherwise
+/// the error is the first fault from the left, with the place of its byte. Memory is allocated only
 /// for bytes that are there.
 pub fn read_bundle(alloc: Global, bytes: &[u8]) -> Result<Bundle, ScriptFault>
     requires { length bytes.now ≤ LONGEST_INPUT }

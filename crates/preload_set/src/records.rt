@@ -27,7 +27,7 @@ fn key(alloc: Global, from: &mut Cursor) -> Result<Bytes, ReadFault>
     }
 }
 
-// The byte that is due.
+// The expected byte.
 fn separator(from: &mut Cursor, due: u8) -> Result<(), ReadFault>
     ensures read { ReadsFromTo (due_byte_at due (left from.old)) from.old from.new result }
     ensures bytes { from.new.bytes ≡ from.old.bytes }
