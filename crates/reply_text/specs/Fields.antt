@@ -8,7 +8,7 @@ use Rattle.reply_text.specs.declared.fields.Held.{Held}
 use Rattle.reply_text.specs.declared.fields.Held.TheVariants.{Text, Number, Value, Null}
 use Rattle.reply_text.specs.Items.{NamedValue}
 
--- the value that is told
+-- the value
 abbrev pub held_value : Held → List Kind
 held_value (Text bytes) = info_string bytes.now 1
 held_value (Number n) = info_number n 1

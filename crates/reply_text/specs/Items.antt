@@ -20,7 +20,7 @@ use Rattle.reply_text.specs.Replies.{Member, array_text, value_members}
 abbrev pub NamedValue : Type 0
 NamedValue = List ℕ × List Kind
 
--- how many values that take a number stand in these
+-- the number of values among these that take a number
 abbrev pub numbers_of : List NamedValue → ℕ
 numbers_of values = sum_by (λ (v : NamedValue). length v.1) values
 
@@ -29,7 +29,7 @@ abbrev pub named_values : List (List ℕ × ℕ) → List (List Kind) → List N
 named_values (field ∷ fields) (value ∷ values) = (field.0, value) ∷ named_values fields values
 named_values _ _ = []
 
--- what an item can tell, in the order of the bits from 0 on; a value that was not asked for is null
+-- the fields of an item, in the order of the bits from 0 on; a value that was not selected is null
 abbrev pub item_values : ItemRow → List NamedValue
 item_values row =
     named_values field_bits
@@ -48,16 +48,16 @@ item_values row =
 abbrev pub if_chosen : Fields → ℕ → NamedValue → List NamedValue
 if_chosen fields bit v = if bit_at fields.0 bit == 1 then v ∷ [] else []
 
--- those that are chosen, where the first one has this bit, and each other one the next
+-- those that are selected, if the first one has this bit, and each other one the next
 abbrev pub chosen_from : ℕ → Fields → List NamedValue → List NamedValue
 chosen_from bit fields [] = []
 chosen_from bit fields (v ∷ vs) = if_chosen fields bit v ++ chosen_from (bit + 1) fields vs
 
--- what is told of a row
+-- the selected fields of a row
 unfoldable pub told_of : Fields → ItemRow → List NamedValue
 told_of fields row = chosen_from 0 fields (item_values row)
 
--- the item's text, where this many values of the reply stand before it
+-- the item's text, if this many values of the reply precede it
 abbrev pub item_text : Fields → ℕ → ItemRow → List ℕ
 item_text fields base row = array_text (value_members (base + 1) (told_of fields row))
 
@@ -67,7 +67,7 @@ item_numbers fields row = 1 + numbers_of (told_of fields row)
 
 -- ---- all items
 
--- items under the keys from n on, where this many values of the reply stand before them
+-- items under the keys from n on, if this many values of the reply precede them
 abbrev pub item_members : Fields → ℕ → ℕ → List ItemRow → List Member
 item_members fields n base [] = []
 item_members fields n base (row ∷ rows) =

@@ -1,4 +1,4 @@
--- Answers that are noted for keys, and where each key's answer stands.
+-- Results that are noted for keys, and the place of each key's result.
 use Rattle.std.specs.Prelude.{◌≡◌, ℕ, suc, if◌then◌else◌, List, [], ◌∷◌, map, Option, Some, None}
 use Rattle.std.specs.Borrow.{Bor}
 use Rattle.std.specs.Option.{option_map}
@@ -8,12 +8,12 @@ use Rattle.std.specs.Cmp.Lexicographic.{slice_cmp}
 use Rattle.std.specs.Ordering.{nat_cmp}
 use Rattle.php_graph.specs.declared.kind.Kind.{Kind}
 
--- where the answer of a key stands
+-- the place of the result of a key
 abbrev pub note_of : {A : Type 0} → List ℕ → List (List ℕ × A) → Option ℕ
 note_of key [] = None
 note_of key (m ∷ ms) = if bytes_eq m.0 key then Some 0 else option_map suc (note_of key ms)
 
--- the map knows it of each key
+-- the map has it for each key
 abbrev pub KnowsNotes : {A : Type 0} → List (List ℕ × A) → BTreeMap (List ℕ) ℕ → Type 0
 KnowsNotes notes places = (key : List ℕ) → get (slice_cmp nat_cmp) places key ≡ note_of key notes
 

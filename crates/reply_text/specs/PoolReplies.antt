@@ -24,8 +24,7 @@ got_text default (reply ∷ replies) = text_of (value_or_default default reply)
 abbrev pub got_in : List Kind → Reply → Option (List Kind)
 got_in default reply = Some (value_or_default default reply)
 
--- each key with its value or the default: a key that comes again keeps its place, with the later
--- answer
+-- each key with its value or the default: a repeated key keeps its place, with the later result
 abbrev pub got_all_text : List Kind → List (List ℕ) → List Reply → List ℕ
 got_all_text default keys replies =
     array_text (value_members 1 (all_noted (got_in default) [] keys replies))
@@ -34,7 +33,7 @@ got_all_text default keys replies =
 abbrev pub all_done_text : List Reply → List ℕ
 all_done_text replies = flag_text (list_all is_done replies)
 
--- A set is done unless a value could not be stored; where its time to live is not positive it only
+-- A set is done unless a value could not be stored; if its time to live is not positive it only
 -- deletes, and a deletion is always done.
 abbrev pub pool_text : PoolAsk → List Reply → List ℕ
 pool_text (Get key default) replies = got_text default replies

@@ -27,7 +27,7 @@ abbrev pub done_text : List Reply → List ℕ
 done_text [] = []
 done_text (reply ∷ replies) = flag_text (is_done reply)
 
--- the value of a fetch and that it was there, or that it was not
+-- the value of a fetch and that it was found, or that it was not
 abbrev pub fetched_one : Reply → List ℕ
 fetched_one (Found g) = text_of g ++ codes "b:1;"
 fetched_one _ = codes "b:0;b:0;"
@@ -41,7 +41,7 @@ abbrev pub fetched_text : List Reply → List ℕ
 fetched_text [] = []
 fetched_text (reply ∷ replies) = fetched_one reply
 
--- the number that a counter came to and that it counted, or that it did not
+-- the new value of a counter and that it counted, or that it did not
 abbrev pub number_one : Reply → List ℕ
 number_one (Number n) = integer_text n ++ codes "b:1;"
 number_one _ = codes "b:0;b:0;"
@@ -50,7 +50,7 @@ abbrev pub number_text : List Reply → List ℕ
 number_text [] = []
 number_text (reply ∷ replies) = number_one reply
 
--- the value that an entry gave
+-- the value of an entry
 abbrev pub gave_one : Reply → List ℕ
 gave_one (Gave g) = text_of g
 gave_one _ = []
@@ -59,7 +59,7 @@ abbrev pub gave_text : List Reply → List ℕ
 gave_text [] = []
 gave_text (reply ∷ replies) = gave_one reply
 
--- information as an array, or a null where there is no such row
+-- information as an array, or a null if there is no such row
 abbrev pub info_one : Reply → List ℕ
 info_one (Info g) = text_of g
 info_one _ = codes "N;"
@@ -68,9 +68,9 @@ abbrev pub info_text : List Reply → List ℕ
 info_text [] = []
 info_text (reply ∷ replies) = info_one reply
 
--- ---- answered arrays
+-- ---- printed arrays
 
--- a key, and the text of what is answered for it
+-- a key, and the text of its result
 abbrev pub Member : Type 0
 Member = List ℕ × List ℕ
 
@@ -89,7 +89,7 @@ undone (key ∷ keys) [] = []
 undone (key ∷ keys) (reply ∷ replies) =
     if is_done reply then undone keys replies else key ∷ undone keys replies
 
--- these keys, each with the same answer
+-- these keys, each with the same result
 abbrev pub all_with : List ℕ → List (List ℕ) → List Member
 all_with answer keys = map (λ key. (key, answer)) keys
 
@@ -106,18 +106,18 @@ numbered i (key ∷ keys) = (decimal i, string_text key) ∷ numbered (i + 1) ke
 abbrev pub undeleted_text : List (List ℕ) → List Reply → List ℕ
 undeleted_text keys replies = array_text (numbered 0 (undone keys replies))
 
--- An answer is noted for a key: a key that has one keeps its place in the order, with the later
--- answer.
+-- A result is noted for a key: a key that has one keeps its place in the order, with the later
+-- result.
 abbrev pub noted : {A : Type 0} → List ℕ → A → List (List ℕ × A) → List (List ℕ × A)
 noted key answer [] = (key, answer) ∷ []
 noted key answer (m ∷ ms) = if bytes_eq m.0 key then (key, answer) ∷ ms else m ∷ noted key answer ms
 
--- where there is one
+-- if there is one
 abbrev pub noted_if : {A : Type 0} → List ℕ → Option A → List (List ℕ × A) → List (List ℕ × A)
 noted_if key None notes = notes
 noted_if key (Some answer) notes = noted key answer notes
 
--- the answers to these keys, noted one after the other behind those that are noted
+-- the results of these keys, noted one after the other, after those that are noted
 abbrev pub all_noted : {A : Type 0}
     → (Reply → Option A) → List (List ℕ × A) → List (List ℕ) → List Reply → List (List ℕ × A)
 all_noted answer_in notes [] replies = notes
@@ -125,11 +125,11 @@ all_noted answer_in notes (key ∷ keys) [] = notes
 all_noted answer_in notes (key ∷ keys) (reply ∷ replies) =
     all_noted answer_in (noted_if key (answer_in reply) notes) keys replies
 
--- the key is there
+-- the key exists
 abbrev pub there_in : Reply → Option (Unit {0})
 there_in reply = if is_done reply then Some tt else None
 
--- what a look for several keys prints: those that are there, each with true
+-- what a test for several keys prints: those that exist, each with true
 abbrev pub there_text : List (List ℕ) → List Reply → List ℕ
 there_text keys replies =
     array_text (all_with (codes "b:1;") (map (λ note. note.0) (all_noted there_in [] keys replies)))
@@ -139,7 +139,7 @@ abbrev pub value_in : Reply → Option (List Kind)
 value_in (Found g) = Some g
 value_in _ = None
 
--- the texts of these values, where this many values of the reply stand before them
+-- the texts of these values, if this many values of the reply precede them
 abbrev pub value_members : ℕ → List (List ℕ × List Kind) → List Member
 value_members base [] = []
 value_members base (m ∷ ms) = (m.0, text_from base m.1) ∷ value_members (base + length m.1) ms

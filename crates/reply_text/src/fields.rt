@@ -1,4 +1,4 @@
-//! Fields of an iterator's items: those that are chosen, as an array.
+//! Fields of an iterator's items: those that are selected, as an array.
 
 ghost use Rattle.std.specs.Prelude.{◌≡◌, ◌+◌, ◌*◌, ◌^◌, ◌<◌, ◌≤◌, ◌==◌, ◌++◌, [], ◌∷◌, length, map};
 ghost use Rattle.std.specs.Prelude.{IfOk, OnOk, unwrap_or};
@@ -24,7 +24,7 @@ pub(crate) enum Held<'a> {
     Null,
 }
 
-// The value, or null where there is none.
+// The value, or null if there is none.
 pub(crate) fn value_or_null(value: &Option<Graph>) -> Held<'_>
     ensures { held_value result ≡ unwrap_or value.now (kinds.Null ∷ []) }
 {
@@ -34,7 +34,7 @@ pub(crate) fn value_or_null(value: &Option<Graph>) -> Held<'_>
     }
 }
 
-// Whether the field with this bit is chosen.
+// Whether the field with this bit is selected.
 fn is_chosen(fields: Fields, bit: usize) -> bool
     requires { bit < 16 }
     ensures { result ≡ (bit_at fields.0 bit == 1) }
@@ -42,7 +42,7 @@ fn is_chosen(fields: Fields, bit: usize) -> bool
     (fields.0 >> bit) & 1 == 1
 }
 
-// How many of these fields are chosen.
+// The number of these fields that are selected.
 fn chosen_count(fields: Fields, all: &[(&[u8], Held)]) -> usize
     requires { length all.now ≤ 16 }
     ensures { result ≡ length (chosen_from 0 fields (map field_value all.now)) }
@@ -54,7 +54,7 @@ fn chosen_count(fields: Fields, all: &[(&[u8], Held)]) -> usize
     count
 }
 
-// The value that a field holds, behind so many values of the reply.
+// The value that a field holds, after `base` values of the reply.
 fn write_held_value(out: &mut ByteOut, held: Held, base: u64) -> Result<(), AllocError>
     requires { base < 2 ^ 56 }
     ensures { OnOk result (out.new ≡ out.old ++ text_from base (held_value held.entry)) }
@@ -67,7 +67,7 @@ fn write_held_value(out: &mut ByteOut, held: Held, base: u64) -> Result<(), Allo
     }
 }
 
-// How many values that take a number it has.
+// The number of its values that take a number.
 fn places_of(held: Held) -> u32
     ensures count { result ≡ length (held_value held.entry) }
     ensures few { result ≤ 2 ^ 24 }
@@ -78,8 +78,8 @@ fn places_of(held: Held) -> u32
     }
 }
 
-// The value that a field holds, behind so many values of the reply. Answers how many values that
-// take a number it has.
+// The value that a field holds, after `base` values of the reply. Returns the number of its values
+// that take a number.
 fn write_held(out: &mut ByteOut, held: Held, base: u64) -> Result<u32, AllocError>
     requires { base < 2 ^ 56 }
     ensures text { OnOk result (out.new ≡ out.old ++ text_from base (held_value held.entry)) }
@@ -90,7 +90,7 @@ fn write_held(out: &mut ByteOut, held: Held, base: u64) -> Result<u32, AllocErro
     Ok(places_of(held))
 }
 
-// The field, if it is chosen. Answers how many values of the reply stand before what follows.
+// The field, if it is selected. Returns how many values of the reply precede what follows.
 fn write_field(
     out: &mut ByteOut,
     fields: Fields,
@@ -113,8 +113,8 @@ fn write_field(
     Ok(base + u64::from(write_held(out, field.1, base)?))
 }
 
-// An array of those of these fields that are chosen, behind so many values of the reply; the first
-// field has the bit 0. Answers how many values stand before what follows.
+// An array of those of these fields that are selected, after `base` values of the reply; the first
+// field has the bit 0. Returns how many values precede what follows.
 pub(crate) fn write_chosen(
     out: &mut ByteOut,
     fields: Fields,

@@ -1,4 +1,4 @@
-//! What is printed tells its journal.
+//! The output determines its journal.
 
 ghost use Rattle.std.specs.Prelude.{◌≡◌, ℕ, ◌≤◌, ◌++◌, List, length};
 ghost use Rattle.apcu_model.specs.declared.conf.Conf.{Conf};
@@ -9,9 +9,9 @@ ghost use Rattle.script_read.specs.Play.{IsLegal};
 ghost use Rattle.reply_text.specs.Output.{journal_lines, output_of};
 ghost use Rattle.reply_text.specs.InRange.{AreInRange};
 
-/// What is printed tells its journal. Whatever marks are read off the end of an output, they are
-/// those of its journal; so legal journals of at most `MOST_WORKERS` workers that have one output
-/// are one, and the journal that a run's contract speaks of is the printed one. Nothing else has to
+/// The output determines its journal. Whatever marks are read from the end of an output, they are
+/// those of its journal; so legal journals of at most `MOST_WORKERS` workers that have the same
+/// output are the same, and the journal of a run's contract is the printed one. Nothing else has to
 /// be known of what the workers print, not even that both outputs are of one cache and of the same
 /// scripts.
 pub fn outputs_tell_journals()

@@ -1,5 +1,5 @@
-//! What calls of a script print for their replies, in serialize notation; and that an output tells
-//! its journal.
+//! What calls of a script print for their replies, in serialize notation; and that an output
+//! determines its journal.
 #![tactic(auto)]
 
 mod fields;

@@ -1,5 +1,5 @@
-//! Answers that are noted for the keys of a call: a key that comes again keeps its place, with the
-//! later answer.
+//! Results that are noted for the keys of a call: a repeated key keeps its place, with the later
+//! result.
 
 ghost use Rattle.std.specs.Prelude.{◌≡◌, [], map, OnOk};
 ghost use Rattle.reply_text.specs.Replies.{noted};
@@ -9,7 +9,7 @@ use std::alloc::{AllocError, Global};
 use std::collections::BTreeMap;
 use std::marker::Model;
 
-/// Keys with their answers, in the order in which the keys first had one. Contracts see the list.
+/// Keys with their results, in the order in which the keys first had one. Contracts see the list.
 pub struct Notes<'a, A> {
     notes: Vec<(&'a Bytes, A)>,
     places: BTreeMap<Bytes, usize>,
@@ -50,7 +50,7 @@ impl<'a, A: Drop> Notes<'a, A> {
         }
     }
 
-    /// Notes an answer for a key.
+    /// Notes a result for a key.
     pub fn note(&mut self, key: &'a Bytes, answer: A) -> Result<(), AllocError>
         ensures { OnOk result (self.new ≡ noted key.now answer self.old) }
     {

@@ -16,10 +16,10 @@ use notation::ByteOut;
 use script_read::Call;
 use std::alloc::{AllocError, Global};
 
-/// Appends what a call prints for its own replies, without the line feed behind it. Without memory
-/// all that was appended is taken back; where 2^55 values stand before an item of an iterator, it
-/// fails as without memory. A reply that no event of such a call gives counts as one that says that
-/// nothing was done or found; for an entry and for totals it prints nothing, as where there is no
+/// Appends what a call prints for its own replies, without the line feed after it. Without memory
+/// all that was appended is removed again; if 2^55 values precede an item of an iterator, it fails
+/// as without memory. A reply that no event of such a call gives counts as one that says that
+/// nothing was done or found; for an entry and for totals it prints nothing, as if there were no
 /// reply.
 pub fn render(call: &Call, replies: &Replies, out: &mut ByteOut) -> Result<(), AllocError>
     ensures text { OnOk result (out.new ≡ out.old ++ call_text call.now replies.now) }

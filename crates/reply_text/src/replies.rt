@@ -19,7 +19,7 @@ use notation::{ByteOut, write_key, write_value};
 use php_graph::{Bytes, Graph};
 use std::alloc::AllocError;
 
-/// A truth value.
+/// A boolean.
 pub fn write_flag(out: &mut ByteOut, done: bool) -> Result<(), AllocError>
     ensures { OnOk result (out.new ≡ out.old ++ flag_text done) }
 {
@@ -29,7 +29,7 @@ pub fn write_flag(out: &mut ByteOut, done: bool) -> Result<(), AllocError>
     }
 }
 
-/// What a fetch of one key found: the value and that it was there, or that it was not.
+/// The result of a fetch of one key: the value and that it was found, or that it was not.
 pub fn write_fetched(out: &mut ByteOut, found: Option<&Graph>) -> Result<(), AllocError>
     ensures { OnOk result (out.new
         ≡ out.old ++ fetched_one (fetched (option_map (λ g. g.now) found.entry))) }
@@ -43,7 +43,7 @@ pub fn write_fetched(out: &mut ByteOut, found: Option<&Graph>) -> Result<(), All
     }
 }
 
-/// The number that a counter came to and that it counted, or that it did not.
+/// The new value of a counter and that it counted, or that it did not.
 pub fn write_number(out: &mut ByteOut, number: Option<i64>) -> Result<(), AllocError>
     ensures { OnOk result (out.new ≡ out.old ++ number_one (number_reply number)) }
 {
@@ -56,15 +56,15 @@ pub fn write_number(out: &mut ByteOut, number: Option<i64>) -> Result<(), AllocE
     }
 }
 
-/// The value that `apcu_entry` gave.
+/// The value of `apcu_entry`.
 pub fn write_gave(out: &mut ByteOut, value: &Graph) -> Result<(), AllocError>
     ensures { OnOk result (out.new ≡ out.old ++ gave_one (Gave value.now)) }
 {
     write_value(value, 0, out)
 }
 
-/// What `apcu_key_info`, `apcu_cache_info` or `apcu_sma_info` told, or a null where no live row has
-/// the key.
+/// The result of `apcu_key_info`, `apcu_cache_info` or `apcu_sma_info`, or a null if no live row
+/// has the key.
 pub fn write_info(out: &mut ByteOut, info: Option<&Graph>) -> Result<(), AllocError>
     ensures { OnOk result (out.new
         ≡ out.old ++ info_one (info_reply (option_map (λ g. g.now) info.entry))) }
@@ -75,8 +75,8 @@ pub fn write_info(out: &mut ByteOut, info: Option<&Graph>) -> Result<(), AllocEr
     }
 }
 
-/// The totals of an iterator: of how many rows, fetched how often, and how many bytes their blocks
-/// have. A number from 2^63 on is printed as the last integer of 64 bits.
+/// The totals of an iterator: the number of rows, the sum of their hits, and the number of bytes of
+/// their blocks. A number from 2^63 on is printed as the maximum of 64 bits.
 pub fn write_totals(out: &mut ByteOut, count: u64, hits: u64, size: u64) -> Result<(), AllocError>
     ensures { OnOk result (out.new ≡ out.old ++ totals_one (Totals count hits size)) }
 {
@@ -106,7 +106,7 @@ fn write_integer(out: &mut ByteOut, n: i64) -> Result<(), AllocError>
     out.push(b";")
 }
 
-// A number; from 2^63 on it is the last integer of 64 bits.
+// A number; from 2^63 on it becomes the maximum of 64 bits.
 pub(crate) fn write_count(out: &mut ByteOut, n: u64) -> Result<(), AllocError>
     ensures { OnOk result (out.new ≡ out.old ++ integer_text (pos (min n (2 ^ 63 - 1)))) }
 {
@@ -114,7 +114,7 @@ pub(crate) fn write_count(out: &mut ByteOut, n: u64) -> Result<(), AllocError>
     write_integer(out, n.min(most).cast_signed())
 }
 
-// How an array of so many members begins.
+// The beginning of an array of this many members.
 pub(crate) fn write_head(out: &mut ByteOut, count: usize) -> Result<(), AllocError>
     ensures { OnOk result (out.new ≡ out.old ++ array_head count) }
 {
@@ -124,7 +124,7 @@ pub(crate) fn write_head(out: &mut ByteOut, count: usize) -> Result<(), AllocErr
     out.push(b":{")
 }
 
-/// An array of these keys, each with the same answer.
+/// An array of these keys, each with the same result.
 pub fn write_each(out: &mut ByteOut, keys: &[&Bytes], answer: &[u8]) -> Result<(), AllocError>
     ensures { OnOk result (out.new ≡ out.old ++ array_text
         (all_with answer.now (map (λ key. key.now) keys.now))) }

@@ -1,4 +1,4 @@
-//! The replies that a call was given, in their order.
+//! The replies to a call, in their order.
 
 ghost use Rattle.std.specs.Prelude.{◌≡◌, ◌==◌, ◌++◌, [], ◌∷◌, length, is_ok, if◌then◌else◌};
 
@@ -6,7 +6,7 @@ use apcu_model::Reply;
 use std::alloc::{AllocError, Global};
 use std::marker::Model;
 
-/// The replies that a call was given, in their order. Contracts see the list.
+/// The replies to a call, in their order. Contracts see the list.
 #[derive(Drop)]
 pub struct Replies {
     replies: Vec<Reply>,
@@ -31,7 +31,7 @@ impl Replies {
         }
     }
 
-    /// Adds a reply at the end. Without memory the replies stay as they were, and the new one is
+    /// Adds a reply at the end. Without memory the replies are unchanged, and the new one is
     /// dropped.
     pub fn push(&mut self, reply: Reply) -> Result<(), AllocError>
         ensures { self.new ≡ (if is_ok result then self.old ++ reply ∷ [] else self.old) }
@@ -40,7 +40,7 @@ impl Replies {
         Ok(())
     }
 
-    /// How many there are.
+    /// The number of replies.
     pub fn len(&self) -> usize
         ensures { result ≡ length self.now }
     {

@@ -69,7 +69,7 @@ fn undone_keys<'a>(
     Ok(some)
 }
 
-// Those of these keys that are there.
+// Those of these keys that exist.
 fn keys_there<'a>(
     alloc: Global,
     keys: &'a [Bytes],
@@ -129,7 +129,7 @@ pub(crate) fn write_undeleted(
     write_numbered(out, &undone_keys(alloc, keys, replies)?)
 }
 
-// What a look for several keys prints.
+// What a test for several keys prints.
 pub(crate) fn write_there(
     out: &mut ByteOut,
     alloc: Global,

@@ -1,4 +1,4 @@
-//! What calls print that are given one reply: nothing before it came, and by that reply then.
+//! What calls with one reply print: nothing before the reply, and then what it determines.
 
 ghost use Rattle.std.specs.Prelude.{◌≡◌, ◌++◌, [], ◌∷◌, drop, IfSome, IfNone, OnOk};
 ghost use Rattle.reply_text.specs.Replies.{done_text, fetched_text, number_text, gave_text};
@@ -34,7 +34,7 @@ pub(crate) fn write_done(out: &mut ByteOut, replies: &[Reply]) -> Result<(), All
     }
 }
 
-// What a fetch found.
+// The result of a fetch.
 pub(crate) fn write_fetch(out: &mut ByteOut, replies: &[Reply]) -> Result<(), AllocError>
     ensures { OnOk result (out.new ≡ out.old ++ fetched_text replies.now) }
 {
@@ -45,7 +45,7 @@ pub(crate) fn write_fetch(out: &mut ByteOut, replies: &[Reply]) -> Result<(), Al
     }
 }
 
-// What a counter came to.
+// The new value of a counter.
 pub(crate) fn write_counted(out: &mut ByteOut, replies: &[Reply]) -> Result<(), AllocError>
     ensures { OnOk result (out.new ≡ out.old ++ number_text replies.now) }
 {
@@ -56,7 +56,7 @@ pub(crate) fn write_counted(out: &mut ByteOut, replies: &[Reply]) -> Result<(), 
     }
 }
 
-// The value that an entry gave.
+// The value of an entry.
 pub(crate) fn write_given(out: &mut ByteOut, replies: &[Reply]) -> Result<(), AllocError>
     ensures { OnOk result (out.new ≡ out.old ++ gave_text replies.now) }
 {
@@ -66,7 +66,7 @@ pub(crate) fn write_given(out: &mut ByteOut, replies: &[Reply]) -> Result<(), Al
     }
 }
 
-// What the first reply says of a key, of the cache or of its segments.
+// The information about a key, the cache or its segments in the first reply.
 pub(crate) fn write_first_info(out: &mut ByteOut, replies: &[Reply]) -> Result<(), AllocError>
     ensures { OnOk result (out.new ≡ out.old ++ info_text replies.now) }
 {

@@ -15,19 +15,19 @@ use notation::{ByteOut, write_key};
 use script_read::FIELDS;
 use std::alloc::AllocError;
 
-// No memory holds so many values.
+// No memory holds this many values.
 const MOST_NUMBERS: u64 = 1 << 55;
 
-// How far a walk's text has come.
+// How far a walk's text was written.
 #[derive(Clone, Copy, Debug)]
 struct Position {
     // The key of the next item.
     key: u64,
-    // How many values that take a number stand before it.
+    // The number of values that take a number before it.
     base: u64,
 }
 
-// What an item can tell, by the bits from 0 on.
+// The fields of an item, by the bits from 0 on.
 fn fields_of(row: &ItemRow) -> [(&[u8], Held<'_>); 9]
     ensures { map field_value result ≡ item_values row.now }
 {
@@ -44,7 +44,7 @@ fn fields_of(row: &ItemRow) -> [(&[u8], Held<'_>); 9]
     ]
 }
 
-// An item behind so many values of the reply. Answers how many values stand before what follows.
+// An item after `base` values of the reply. Returns how many values precede what follows.
 fn write_item(
     out: &mut ByteOut,
     fields: Fields,
@@ -98,7 +98,7 @@ fn items_of(reply: &Reply) -> &[ItemRow]
     }
 }
 
-// How many items these steps have.
+// The number of items of these steps.
 fn count_items(steps: &[Reply]) -> Result<usize, AllocError>
     ensures { IfOk result (λ count. count ≡ length (flat_map items_in steps.now)) }
 {
@@ -111,10 +111,10 @@ fn count_items(steps: &[Reply]) -> Result<usize, AllocError>
 }
 
 /// The items of an iterator's steps, in order: an array with the keys 0, 1 and so on. An item is an
-/// array of the fields that are chosen, in the order of their bits; a number from 2^63 on is
-/// printed as the last integer of 64 bits. What is inside a value is numbered behind all that
-/// stands before it. A reply that is no step has no items. Where 2^55 values stand before an item,
-/// it fails as without memory.
+/// array of the fields that are selected, in the order of their bits; a number from 2^63 on is
+/// printed as the maximum of 64 bits. What is inside a value is numbered after all that precedes
+/// it. A reply that is no step has no items. If 2^55 values precede an item, it fails as without
+/// memory.
 pub fn write_walk(out: &mut ByteOut, fields: Fields, steps: &[Reply]) -> Result<(), AllocError>
     ensures { OnOk result (out.new ≡ out.old ++ walk_text fields steps.now) }
 {
