@@ -1,4 +1,4 @@
--- Events with the pools whose calls asked them.
+-- Events with the pools whose calls made them.
 use Rattle.std.specs.Prelude.{◌≡◌, ℕ, ◌&&◌, ◌||◌, not, Bool, true, false, cond, List, [], ◌∷◌, map}
 use Rattle.std.specs.Prelude.{filter, Option, Some, None, is_some}
 use Rattle.std.specs.List.{list_all, list_any, AllByRecursion}
@@ -14,7 +14,7 @@ use Rattle.pool_laws.specs.PoolKeys.{holds_text}
 use Rattle.pool_laws.specs.Pools.{is_of_pool, named_keys, do_not_fall, is_clear, are_bytes}
 use Rattle.pool_laws.specs.Pools.{is_store_lost, map_answers}
 
--- An event, and the pool whose call asked it, where it was a pool's.
+-- An event, and the pool whose call made it, if it was a pool's.
 pub record Asked : Type 0 where
   pub pool : Option (List ℕ)
   pub event : Event
@@ -23,11 +23,11 @@ abbrev pub is_this_pool : List ℕ → Option (List ℕ) → Bool
 is_this_pool name None = false
 is_this_pool name (Some other) = bytes_eq other name
 
--- a call of the pool asked it
+-- a call of the pool made it
 abbrev pub is_by : List ℕ → Asked → Bool
 is_by name a = is_this_pool name a.pool
 
--- what a pool's call asks has the pool's form
+-- the request of a pool's call has the pool's form
 abbrev pub HasPoolForm : Option (List ℕ) → Request → Type 0
 HasPoolForm None request = Unit {0}
 HasPoolForm (Some name) request = (is_good_name name ≡ true) × (is_of_pool name request ≡ true)
@@ -38,12 +38,12 @@ HavePoolForms asked = AllByRecursion (λ (a : Asked). HasPoolForm a.pool a.event
 abbrev pub asked_events : List Asked → List Event
 asked_events asked = map {A = Asked} (λ a. a.event) asked
 
--- the keys that these events name are of bytes
+-- the keys that these events name consist of bytes
 abbrev pub AreOfBytes : List Event → Type 0
 AreOfBytes history =
     list_all (λ (e : Event). list_all are_bytes (named_keys e.request)) history ≡ true
 
--- only the pool's calls name a key in which its name stands in braces
+-- only the pool's calls name a key that contains its name in braces
 abbrev pub is_untouched : List ℕ → Asked → Bool
 is_untouched name a =
     is_by name a || not (list_any (holds_text (braced name)) (named_keys a.event.request))
@@ -63,13 +63,13 @@ are_kept name m (a ∷ asked) =
     not (is_by name a && is_store_lost a.event.request (reply_in m a.event))
     && are_kept name (after_event m a.event) asked
 
--- what is asked of calls for a pool to be as if it stood alone
+-- the conditions on calls under which a pool is as if it were alone
 pub record CallsLeaveAlone (name : List ℕ) (conf : Conf) (asked : List Asked) : Type 0 where
   pub good : is_good_name name ≡ true
-  -- no time limit but the rows' own
+  -- no ttl except the rows' own
   pub no_limit : conf.ttl ≡ 0
   pub in_order : do_not_fall 0 (asked_events asked) ≡ true
-  -- no full expunge came
+  -- there was no full expunge
   pub no_expunge : (stage_of conf (asked_events asked)).cache.expunges ≡ 0
   pub kept : are_kept name (start_of conf) asked ≡ true
   pub no_clear : list_all (λ (e : Event). not (is_clear e.request)) (asked_events asked) ≡ true
@@ -84,7 +84,7 @@ told_from name m (a ∷ asked) =
     (reply_in m a.event ∷ told_from name (after_event m a.event) asked)
     (told_from name (after_event m a.event) asked)
 
--- each reply to the pool's calls is that of its map, started empty, over these events alone
+-- each reply to the pool's calls is that of its map, which began empty and saw only these events
 abbrev pub CallsStandAlone : List ℕ → Conf → List Asked → Type 0
 CallsStandAlone name conf asked =
     told_from name (start_of conf) asked

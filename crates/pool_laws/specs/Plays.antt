@@ -1,4 +1,4 @@
--- The events of a journal, each with the pool whose call asked it, and with its reply.
+-- The events of a journal, each with the pool whose call made it, and with its reply.
 use Rattle.std.specs.Prelude.{◌≡◌, ℕ, List, [], ◌∷◌, map, filter}
 use Rattle.std.specs.Prelude.{Option, Some, None, option_and_then}
 use Rattle.std.specs.Option.{option_map_or}
@@ -14,7 +14,7 @@ use Rattle.script_read.specs.Play.{replies_of, script_of, wish_of, event_of, aft
 use Rattle.pool_laws.specs.Calls.{Asked, is_by}
 use Rattle.pool_laws.specs.Pools.{map_answers}
 
--- the call itself where it asks, or else the one among those after it that does
+-- the call itself if it makes a request, or else the one among those after it that does
 abbrev pub caller : Call → (List Reply → Option Call) → Next → Option Call
 caller call later (Asks request) = Some call
 caller call later (Leaves others) = later others
@@ -25,7 +25,7 @@ calling conf [] replies = None
 calling conf (step ∷ steps) replies =
     caller step.call (calling conf steps) (next_of conf step.call replies)
 
--- of which pool a call is
+-- the pool of a call
 abbrev pub pool_of : Call → Option (List ℕ)
 pool_of (Pool call) = Some call.pool
 pool_of _ = None
@@ -48,7 +48,7 @@ answered_at conf scripts p mark wish = record {
   reply = reply_in p.stage (event_of mark wish);
 }
 
--- what the marks of a journal tell from a play on, as far as they can be played
+-- the events of a journal's marks from a play on, as far as they can be played
 abbrev pub answered_after : Conf → List (List Step) → Play → List Mark → List Answered
 answered_after conf scripts p [] = []
 answered_after conf scripts p (mark ∷ marks) =
@@ -63,8 +63,8 @@ answered_by conf scripts journal = answered_after conf scripts (nothing_played c
 abbrev pub asked_in : List Answered → List Asked
 asked_in told = map {A = Answered} (λ x. x.asked) told
 
--- Each reply to an event of the pool's calls is that of its map, started empty, over these events
--- alone.
+-- Each reply to an event of the pool's calls is that of its map, which began empty and saw only
+-- these events.
 abbrev pub PoolStandsAlone : List ℕ → Conf → List Answered → Type 0
 PoolStandsAlone name conf told =
     let own = filter (λ (x : Answered). is_by name x.asked) told in

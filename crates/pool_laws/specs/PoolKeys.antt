@@ -11,7 +11,7 @@ abbrev pub is_key_of : List ℕ → List ℕ → Bool
 is_key_of name key =
     starts_with nat_eq key (braced name) && is_good_key (drop (length (braced name)) key)
 
--- the text stands somewhere in the bytes
+-- the bytes contain the text
 abbrev pub holds_text : List ℕ → List ℕ → Bool
 holds_text text [] = starts_with nat_eq [] text
 holds_text text (b ∷ bytes) = starts_with nat_eq (b ∷ bytes) text || holds_text text bytes

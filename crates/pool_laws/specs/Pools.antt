@@ -1,4 +1,4 @@
--- The events of pools in a history of the cache, and what is answered to them.
+-- The events of pools in a history of the cache, and the replies to them.
 use Rattle.std.specs.Prelude.{◌≡◌, ℕ, ◌==◌, ◌&&◌, ◌||◌, not, nat_le, Bool, true, false, cond}
 use Rattle.std.specs.Prelude.{if◌then◌else◌, List, [], ◌∷◌, map, filter}
 use Rattle.std.specs.List.{list_all, list_any}
@@ -15,7 +15,7 @@ use Rattle.pool_laws.specs.PoolKeys.{is_key_of, is_pattern_of, holds_text}
 use Rattle.simple_pool.specs.Requests.{pool_step}
 use Rattle.pool_laws.specs.Maps.{Entry, map_reply, map_after}
 
--- a call of the pool asks so
+-- a call of the pool makes such requests
 abbrev pub is_of_pool : List ℕ → Request → Bool
 is_of_pool name (asks.Store key value ttl exclusive) = not exclusive && is_key_of name key
 is_of_pool name (asks.Fetch key) = is_key_of name key
@@ -60,12 +60,12 @@ abbrev pub is_clear : Request → Bool
 is_clear asks.Clear = true
 is_clear _ = false
 
--- only the pool itself names a key in which its name stands in braces
+-- only the pool itself names a key that contains its name in braces
 abbrev pub is_left_alone : List ℕ → Request → Bool
 is_left_alone name request =
     is_of_pool name request || not (list_any (holds_text (braced name)) (named_keys request))
 
--- who deletes by a walk is a pool
+-- a request that deletes by a walk is a pool's
 abbrev pub ClearsPool : Request → Type 0
 ClearsPool (asks.ChunkDelete wanted from size) =
     (name : List ℕ)
@@ -92,26 +92,26 @@ are_stored name m (e ∷ es) =
     not (is_of_pool name e.request && is_store_lost e.request (reply_in m e))
     && are_stored name (after_event m e) es
 
--- What is asked of a history for a pool to be as if it stood alone.
+-- The conditions on a history under which a pool is as if it were alone.
 pub record LeavesAlone (name : List ℕ) (conf : Conf) (history : List Event) : Type 0 where
   pub good : is_good_name name ≡ true
-  -- no time limit but the rows' own
+  -- no ttl except the rows' own
   pub no_limit : conf.ttl ≡ 0
   pub in_order : do_not_fall 0 history ≡ true
-  -- no full expunge came
+  -- there was no full expunge
   pub no_expunge : (stage_of conf history).cache.expunges ≡ 0
   pub stored : are_stored name (start_of conf) history ≡ true
   pub no_clear : list_all (λ (e : Event). not (is_clear e.request)) history ≡ true
   pub keys : list_all (λ (e : Event). is_left_alone name e.request) history ≡ true
   pub walks : AreOfPools history
-  -- keys are of bytes
+  -- keys consist of bytes
   pub bytes : list_all (λ (e : Event). list_all are_bytes (named_keys e.request)) history ≡ true
 
 -- the pool's events
 abbrev pub events_of_pool : List ℕ → List Event → List Event
 events_of_pool name history = filter (λ (e : Event). is_of_pool name e.request) history
 
--- what is answered to them in the history, after a stage
+-- the replies to them in the history, after a stage
 abbrev pub answered_from : List ℕ → Stage → List Event → List Reply
 answered_from name m [] = []
 answered_from name m (e ∷ es) =
@@ -122,13 +122,13 @@ answered_from name m (e ∷ es) =
 abbrev pub answered : List ℕ → Conf → List Event → List Reply
 answered name conf history = answered_from name (start_of conf) history
 
--- and what the pool's map answers to them
+-- and the replies of the pool's map to them
 abbrev pub map_answers : ℕ → List Entry → List Event → List Reply
 map_answers slots m [] = []
 map_answers slots m (e ∷ es) =
     map_reply slots e.t e.request m ∷ map_answers slots (map_after slots e.t e.request m) es
 
--- each reply to the pool's events is that of its map, started empty, over its own events alone
+-- each reply to the pool's events is that of its map, which began empty and saw only its own events
 abbrev pub StandsAlone : List ℕ → Conf → List Event → Type 0
 StandsAlone name conf history =
     answered name conf history ≡ map_answers conf.slots [] (events_of_pool name history)

@@ -1,4 +1,4 @@
-//! A pool that is left alone is answered as a map of its own.
+//! A pool that is left alone replies as a map of its own does.
 
 ghost use Rattle.std.specs.Prelude.{◌≡◌, ℕ, List, Some};
 ghost use Rattle.apcu_model.specs.declared.conf.Clock.{Clock};
@@ -21,8 +21,8 @@ ghost use Rattle.pool_laws.specs.Pools.{LeavesAlone, StandsAlone};
 use apcu_model::{events_keep, one_event_more};
 use script_read::scripts_are_ranged;
 
-/// A pool keeps its keys in the cache beside all other keys. Where it is left alone, each reply to
-/// its events is what a map of its own would answer, that began empty and saw these events alone.
+/// A pool keeps its keys in the cache together with all other keys. If it is left alone, each reply
+/// to its events is that of a map of its own that began empty and saw only these events.
 pub fn pools_stand_alone()
     ensures { (name : List ℕ) (conf : Conf) (history : List Event)
         → LeavesAlone name conf history → StandsAlone name conf history }
@@ -31,8 +31,8 @@ pub fn pools_stand_alone()
     events_keep();
 }
 
-/// The same of the events that a pool's calls asked, where each event is known with the pool whose
-/// call asked it and all keys are of bytes.
+/// The same for the events of a pool's calls, if each event is known with the pool whose call made
+/// it and all keys consist of bytes.
 pub fn calls_stand_alone()
     ensures { (name : List ℕ) (conf : Conf) (asked : List Asked) → HavePoolForms asked
         → AreOfBytes (asked_events asked) → CallsLeaveAlone name conf asked
@@ -41,15 +41,15 @@ pub fn calls_stand_alone()
     pools_stand_alone();
 }
 
-/// What a call of a pool asks has the pool's form: it names keys of the pool, or clears it.
+/// The request of a pool's call has the pool's form: it names keys of the pool, or clears it.
 pub fn calls_are_tied()
     ensures { (call : PoolCall) (i : ℕ) (request : Request) → IsGoodCall call
         → request_at call i ≡ Some request → HasPoolForm (Some call.pool) request }
 {}
 
-/// In a legal journal, whatever the scripts and the interleaving: a pool that is left alone is
-/// answered as a map of its own would answer, that began empty and saw the pool's events alone. The
-/// scripts are any that bytes spell, under either clock, or else any in range with keys of bytes.
+/// In a legal journal, whatever the scripts and the interleaving: the replies of a pool that is
+/// left alone are those of a map of its own that began empty and saw only the pool's events. The
+/// scripts are any that bytes spell, under either clock, or any in range with keys of bytes.
 pub fn pools_in_plays()
     ensures spelled { (name : List ℕ) (conf : Conf) (clock : Clock) (bytes : List ℕ)
         (scripts : List (List Step)) (journal : List Mark)

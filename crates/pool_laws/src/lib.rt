@@ -1,4 +1,4 @@
-//! Laws of pools: what a pool that keeps its keys under `{name}key` in the cache is answered.
+//! Laws of pools: the replies of a pool that keeps its keys under `{name}key` in the cache.
 #![tactic(auto)]
 
 mod laws;
