@@ -1,4 +1,4 @@
-//! What a script is expected to ask, call by call.
+//! The requests that a script is expected to make, call by call.
 
 use apcu_model::{Gen, GenKind, Keys, List, Pairs, Pattern};
 use notation::{Cursor, read_value};
@@ -72,7 +72,7 @@ pub(crate) fn are_pairs(
     Ok(true)
 }
 
-// The keys and limits of time from outside in, and the value inside.
+// The keys and ttls from the outermost inwards, and the value inside.
 fn is_generator(
     alloc: Global,
     levels: &[(&[u8], u32)],
@@ -127,7 +127,7 @@ fn is_iterator(expected: Asked, call: &Call) -> bool {
     }
 }
 
-// Whether it is this call, of those that hold no values.
+// Whether it is this call, if that holds no values.
 fn is_plain_call(expected: Asked, call: &Call) -> bool {
     match (expected, call) {
         (Asked::Fetch(k), Call::FetchOne(key))
@@ -180,7 +180,7 @@ fn is_call(alloc: Global, expected: Asked, call: &Call) -> Result<bool, Fail> {
 // A line of the table: the moment, the call, and its events.
 pub(crate) type Row = (u64, Asked, u64);
 
-// The step's moment, its call and how many events that may make.
+// The step's moment, its call and the largest number of its events.
 fn expect_step(rt: &impl Abort, alloc: Global, step: &Step, row: Row) -> Result<(), Fail> {
     assert_eq!(rt; step.t, row.0);
     let same = is_call(alloc, row.1, &step.call)?;

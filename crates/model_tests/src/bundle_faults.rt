@@ -78,7 +78,7 @@ fn separators_at_fault(rt: HostRuntime) {
     all_refused(&rt, rt.alloc(), FAULTS);
 }
 
-// An input, how many bytes of it are to be a bundle, the place of the first fault, and the reason.
+// An input, how many bytes of it should be a bundle, the place of the first fault, and the reason.
 type Front = (&'static [u8], u64, u64, Reason);
 
 #[test]
@@ -86,7 +86,7 @@ fn fronts_at_fault(rt: HostRuntime) {
     const FAULTS: &[Front] = &[
         (b"", 1, 0, Reason::End),
         (b"s:1:\"a\"; i:5;\n", 15, 14, Reason::End),
-        // An input that is too short is told before any other fault.
+        // An input that is too short is reported before any other fault.
         (b"i:05;", 67_108_864, 5, Reason::End),
         (b"N;", u64::MAX, 2, Reason::End),
         (b"s:1:\"a\"; i:5;\nworker\n", 13, 13, Reason::End),

@@ -55,7 +55,7 @@ fn bundles(rt: HostRuntime) -> Result<(), Fail> {
     Ok(())
 }
 
-// An input, how many bytes of it are a bundle, its rows, and the bytes behind it.
+// An input, how many bytes of it are a bundle, its rows, and the bytes after it.
 type Front = (&'static [u8], u64, Rows, &'static [u8]);
 
 #[test]

@@ -1,4 +1,4 @@
-//! Calls of the plain cache, and what they answer and count.
+//! Calls of the plain cache, and their replies and counters.
 
 use crate::play::{Call, NONE, Value, play, small};
 use apcu_model::{Reply, Request};
@@ -48,8 +48,8 @@ fn exists_deletes_and_clears(rt: HostRuntime) -> Result<(), Fail> {
     )
 }
 
-// A sum wraps in 64 bits. What is no integer is not counted with. A key without a live row counts
-// from 0, and a row that is there keeps its time to live.
+// A sum wraps in 64 bits. A value that is no integer is not counted. A key without a live row
+// counts from 0, and an existing row keeps its time to live.
 #[test]
 fn counts(rt: HostRuntime) -> Result<(), Fail> {
     play(
@@ -100,7 +100,7 @@ fn swaps_what_is_expected(rt: HostRuntime) -> Result<(), Fail> {
     )
 }
 
-// The value inside is stored under both keys; then the inner one alone gives it to another key.
+// The value inside is stored under both keys; then another key gets it from the inner one.
 #[test]
 fn enters_what_is_missing(rt: HostRuntime) -> Result<(), Fail> {
     play(
@@ -124,8 +124,8 @@ fn enters_what_is_missing(rt: HostRuntime) -> Result<(), Fail> {
     )
 }
 
-// Each new row has its own time to live. A key that is there twice is missed twice, and stored
-// once, by the inner entry.
+// Each new row has its own time to live. A key that occurs twice is missed twice, and stored once,
+// by the inner entry.
 #[test]
 fn enters_each_level(rt: HostRuntime) -> Result<(), Fail> {
     play(
@@ -150,8 +150,8 @@ fn enters_each_level(rt: HostRuntime) -> Result<(), Fail> {
     )
 }
 
-// A value that can't be stored is given all the same. Of two blocks that do not fit beside each
-// other the outer one is stored last, so it stays; and the misses, counted before, are forgotten.
+// A value that cannot be stored is returned all the same. Of two blocks that do not both fit the
+// outer one is stored last, so it stays; and the counter of misses, counted before, is 0 again.
 #[test]
 fn enters_what_finds_no_place(rt: HostRuntime) -> Result<(), Fail> {
     play(
@@ -262,7 +262,7 @@ fn expires(rt: HostRuntime) -> Result<(), Fail> {
     )
 }
 
-// The cache's own limit is 10 seconds from the last use on, which a fetch renews.
+// The cache's own ttl is 10 seconds from the last use, which a fetch renews.
 #[test]
 fn finds_a_row_that_was_not_used(rt: HostRuntime) -> Result<(), Fail> {
     play(
@@ -280,7 +280,7 @@ fn finds_a_row_that_was_not_used(rt: HostRuntime) -> Result<(), Fail> {
     )
 }
 
-// Two blocks that are given back beside each other are one gap, whichever of them goes first.
+// Two adjacent blocks that are freed become one gap, whichever is freed first.
 #[test]
 fn merges_gaps(rt: HostRuntime) -> Result<(), Fail> {
     for (first, second) in [(1, 2), (2, 1)] {

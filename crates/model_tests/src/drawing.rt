@@ -52,7 +52,7 @@ fn scripts_of_a_seed(rt: HostRuntime) -> Result<(), Fail> {
         (0, Asked::Fetch(b"p1.10"), 1),
         (0, Asked::Fetch(b"p1.13"), 1),
     ];
-    // The worker behind the last seed begins at 0.
+    // The worker after the last seed begins at 0.
     const LAST: &[Row] = &[
         (0, Asked::Fetch(b"p0.10"), 1),
         (0, Asked::Inc(b"c5", 85, 0), 1),

@@ -1,4 +1,4 @@
-//! Iterators: what is read of their lines, and what is refused.
+//! Iterators: how their lines are read, and which are refused.
 
 use crate::asked::{Asked, Row, expect_steps};
 use crate::faults::{Fault, all_refused};

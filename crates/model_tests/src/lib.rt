@@ -1,6 +1,6 @@
-//! Tests of the cache as it is defined, and of what is read and printed: the plain cache, lists and
-//! journals, the program's options; scripts, bundles and calls of pools, correct and faulty; what a
-//! worker asks and how its replies are printed. Laws are called here too.
+//! Tests of the cache as it is defined, and of reading and printing: the plain cache, lists and
+//! journals, the program's options; scripts, bundles and calls of pools, correct and faulty; the
+//! requests of a worker and the output for its replies. Laws are called here too.
 #![tactic(auto)]
 
 #[cfg(test)]

@@ -1,4 +1,4 @@
-//! What calls are asked with and gathered in: pairs, keys, items, requests and journals.
+//! The arguments and results of calls: pairs, keys, items, requests and journals.
 
 use crate::play::{Value, generator, key, small, value_of};
 use apcu_model::{Ask, Gen, GenKind, ItemRow, Items, Journal, Keys, Mark, Pairs, Request};
@@ -47,7 +47,7 @@ fn expect_key(rt: &impl Abort, keys: &Keys, text: &[u8]) {
     assert_eq!(rt; keys.at(0).as_slice(), text);
 }
 
-// Of two pairs the second is too large: a store of both tells its key alone.
+// Of two pairs the second is too large: a store of both returns only its key.
 #[test]
 fn stores_pairs(rt: HostRuntime) -> Result<(), Fail> {
     let pairs = two_pairs(&rt, rt.alloc())?;
@@ -106,7 +106,7 @@ fn expect_items(rt: &impl Abort, items: &Items) {
     assert_eq!(rt; items.at(1).key.as_slice(), b"k02".as_slice());
 }
 
-// Items stand in the order in which they came.
+// Items are in the order in which they were added.
 #[test]
 fn gathers_items(rt: HostRuntime) -> Result<(), Fail> {
     let items = two_items(&rt, rt.alloc())?;
@@ -150,7 +150,7 @@ fn expect_delete(rt: &impl Abort, lent: Ask) {
     }
 }
 
-// A generator tells how many entries it has, and a request lends it.
+// A generator knows its number of entries, and a request lends it.
 #[test]
 fn tells_its_entries(rt: HostRuntime) -> Result<(), Fail> {
     let value = value_of(&rt, rt.alloc(), Value::Int(7))?;

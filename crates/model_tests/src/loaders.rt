@@ -1,4 +1,4 @@
-//! What a loader stores.
+//! The stores of a loader.
 
 use crate::asked::is_value;
 use crate::bundles::Rows;
@@ -8,7 +8,7 @@ use std::alloc::Global;
 use std::process::Abort;
 use std::test::Fail;
 
-// Each row is stored for ever, at the moment 0, and over what its key had.
+// Each row is stored without time limit, at the moment 0, and replaces what its key had.
 fn expect_stores<R: Abort>(rt: &R, alloc: Global, script: &Script, rows: Rows) -> Result<(), Fail> {
     assert_eq!(rt; script.len() as usize, rows.len());
     for i in 0..script.len() {

@@ -11,7 +11,7 @@ use std::test::Fail;
 // The moment of a call, and the start of its request.
 type Moment = (u64, u64);
 
-// A text, and of each of its scripts the moments of the calls.
+// A text, and for each of its scripts the moments of the calls.
 type Case = (&'static [u8], &'static [&'static [Moment]]);
 
 fn expect_script(rt: &impl Abort, script: &Script, moments: &[Moment]) {
@@ -61,7 +61,7 @@ fn moments_in_any_order(rt: HostRuntime) -> Result<(), Fail> {
             request i:999999999999;\napcu_enabled\nrequest i:0;\n",
             &[&[(0, 0), (4, 4), (6, 4), (999999999999, 999999999999)]],
         ),
-        // Each script begins anew.
+        // Each script begins at 0 again.
         (
             b"worker\nrequest i:7;\ntime i:9;\napcu_enabled\nworker\napcu_enabled\n\
             time i:1;\napcu_enabled\nworker\nrequest i:2;\n",

@@ -1,4 +1,4 @@
-//! The words that the program is called with, and the settings that they call for.
+//! The arguments of the program, and the settings that they ask for.
 
 use apcu_model::{Clock, Conf};
 use conf_read::{ConfFault, Settings, Task, read_settings};
@@ -6,7 +6,7 @@ use std::alloc::Global;
 use std::process::Abort;
 use std::test::Fail;
 
-// The program is called with these words behind its name.
+// The program is called with these arguments after its name.
 pub(crate) fn expect<R: Abort>(
     rt: &R,
     alloc: Global,
@@ -28,7 +28,7 @@ pub(crate) const PLAY: Task = Task::Play {
     map: false,
 };
 
-// The settings where nothing is said of the clock and the task.
+// The settings with the default clock and task.
 fn by_line(conf: Conf) -> Settings {
     Settings {
         conf,
@@ -213,7 +213,7 @@ fn segments_out_of_their_range(rt: HostRuntime) -> Result<(), Fail> {
         ("264", "2", "2"),
         ("4104", "64", "32"),
         ("240", "64", "2"),
-        // The slots stand in the first segment, and leave 16 words of it.
+        // The slots are in the first segment, and leave 16 words of it.
         ("256", "2", "18"),
         ("4096", "64", "498"),
         ("2M", "64", "262130"),
@@ -281,7 +281,7 @@ fn faulty_words_of_the_clock(rt: HostRuntime) -> Result<(), Fail> {
         &["--use-request-time=0", "--ttl=7", "--use-request-time=1"],
         &["--use-request-tim", "1"],
         &["--request-time", "1"],
-        // The other values are looked at too.
+        // The other values are checked too.
         &["--use-request-time", "1", "--slots", "31"],
         &["--ttl", "4294967296", "--use-request-time", "1"],
     ] {

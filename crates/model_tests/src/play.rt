@@ -1,4 +1,4 @@
-//! Plays of the plain cache, by one cache that is asked and one that takes over.
+//! Plays of the plain cache, by `ask` and by the calls that take ownership.
 
 ghost use Rattle.std.specs.Prelude.{◌≡◌, false, IfOk};
 ghost use Rattle.apcu_model.specs.Conf.{IsUsable};
@@ -19,7 +19,7 @@ fn graph(rt: &impl Abort, alloc: Global, item: Item) -> Result<Graph, Fail> {
     Ok(builder.seal())
 }
 
-// The number, or a string of so many bytes.
+// The number, or a string of this many bytes.
 #[derive(Clone, Copy)]
 pub(crate) enum Value {
     Int(i64),
@@ -37,7 +37,7 @@ pub(crate) fn value_of(rt: &impl Abort, alloc: Global, value: Value) -> Result<G
     }
 }
 
-// One cache that is asked, and one that takes over and lends: both answer the same.
+// A cache that is called by `ask`, and one by the calls that own and lend: both reply the same.
 #[derive(Drop)]
 struct Pair {
     alloc: Global,
@@ -69,14 +69,14 @@ fn flag(rt: &impl Abort, reply: Reply) -> bool {
     }
 }
 
-// What is answered. The request is let go here, in one place.
+// The reply. The request is dropped here, in one place.
 fn ask(plain: &mut Plain, request: Request, t: u64) -> Result<Reply, Fail>
     requires { is_iteration request ≡ false }
 {
     Ok(plain.ask(&request, t)?)
 }
 
-// The cache that is asked answers so.
+// The cache that is called by `ask` replies so.
 fn expect_flag(
     rt: &impl Abort,
     pair: &mut Pair,
@@ -91,7 +91,7 @@ fn expect_flag(
     Ok(())
 }
 
-// How long a row lives, whether it is stored beside no live one, and when.
+// How long a row lives, whether it is stored only if no live one exists, and when.
 type How = (u32, bool, u64);
 
 // A store of copies.
@@ -157,7 +157,7 @@ fn number_in(rt: &impl Abort, reply: Reply) -> Option<i64> {
     }
 }
 
-// The number under the key; `None` where it is absent, and -1 for another value.
+// The number under the key; `None` if it is absent, and -1 for any other value.
 fn found(
     rt: &impl Abort,
     pair: &mut Pair,
@@ -233,7 +233,7 @@ fn clear(rt: &impl Abort, pair: &mut Pair, t: u64) -> Result<(), Fail> {
     expect_flag(rt, pair, Request::Clear, t, true)
 }
 
-// A call under the key of that number, and what it answers.
+// A call under the key of that number, and its reply.
 #[derive(Clone, Copy)]
 pub(crate) enum Call {
     // with this ttl
@@ -246,7 +246,7 @@ pub(crate) enum Call {
     Inc(u8, i64, u32, Option<i64>),
     // from an integer to another
     Cas(u8, i64, i64, bool),
-    // by keys with times to live, from outside in, and the value inside; what it gives
+    // by keys with times to live, from the outermost inwards, and the value inside; the result
     Entry([(u8, u32); 3], Value, i64),
     Clear,
     // the number 1 under the keys 1 to 30: they fill 480 words; the first has this ttl
@@ -268,10 +268,10 @@ fn put(
     store(rt, pair, key, value, how, expected)
 }
 
-// No key: fewer than three are asked for.
+// No key, if there are fewer than three.
 pub(crate) const NONE: (u8, u32) = (0, 0);
 
-// The generator with these keys from outside in, and their times to live.
+// The generator with these keys from the outermost inwards, and their times to live.
 pub(crate) fn generator(alloc: Global, keys: &[(u8, u32)], value: Graph) -> Result<Gen, Fail> {
     let mut generator = Gen::value(value);
     for (name, ttl) in keys.iter().rev() {
@@ -290,7 +290,7 @@ fn given(rt: &impl Abort, reply: Reply) -> i64 {
     }
 }
 
-// What both answer.
+// The reply of both.
 fn ask_both(pair: &mut Pair, request: Request, t: u64) -> Result<(Reply, Reply), Fail>
     requires { is_iteration request ≡ false }
 {
@@ -380,7 +380,7 @@ pub(crate) fn small(ttl: u32) -> Conf
     }
 }
 
-// The calls in turn at their times, in a new cache with this limit.
+// The calls in turn at their times, in a new cache with this ttl.
 pub(crate) fn play(
     rt: &impl Abort,
     alloc: Global,

@@ -1,4 +1,4 @@
-//! What calls on pools ask.
+//! The requests of calls on pools.
 
 use apcu_model::Request;
 use php_graph::Bytes;

@@ -1,4 +1,4 @@
-//! What is read of pools' lines.
+//! Reading pools' lines.
 
 use crate::asked::{are_keys, are_pairs, is_search, is_value};
 use script_read::{Call, Script, read_scripts};
@@ -7,7 +7,7 @@ use std::alloc::Global;
 use std::process::Abort;
 use std::test::Fail;
 
-// What a line asks of a pool: values and pairs by their texts.
+// The call of a line on a pool: values and pairs by their texts.
 #[derive(Clone, Copy)]
 enum Asked {
     Get(&'static [u8], &'static [u8]),
@@ -57,7 +57,7 @@ fn is_ask(alloc: Global, expected: Asked, ask: &PoolAsk) -> Result<bool, Fail> {
     }
 }
 
-// A line of the table: the pool, what is asked of it, and the events in a cache of 32 slots.
+// A line of the table: the pool, its call, and the events in a cache of 32 slots.
 type Row = (&'static [u8], Asked, u64);
 
 // The call is one on a pool as the row has it.

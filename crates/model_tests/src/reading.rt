@@ -110,7 +110,7 @@ fn entries_and_information(rt: HostRuntime) -> Result<(), Fail> {
     expect_steps(&rt, rt.alloc(), text, ROWS)
 }
 
-// A line `apcu_entry` of so many entries in one another.
+// A line `apcu_entry` of `levels` nested entries.
 fn nested(alloc: Global, levels: u32) -> Result<ByteOut, Fail> {
     let mut text = ByteOut::new(alloc);
     text.push(b"worker\napcu_entry s:1:\"k\"; ")?;
@@ -154,7 +154,7 @@ fn no_scripts(rt: HostRuntime) -> Result<(), Fail> {
     Ok(())
 }
 
-// So many lines `worker`, the first of which has a call.
+// This many lines `worker`, the first of which has a call.
 fn workers(alloc: Global, count: u32) -> Result<ByteOut, Fail> {
     let mut text = ByteOut::new(alloc);
     text.push(b"worker\napcu_enabled\n")?;

@@ -1,4 +1,4 @@
-//! What calls print for their replies, as a table.
+//! A table of what calls print for their replies.
 
 use apcu_model::{Keys, Reply};
 use notation::{ByteOut, Cursor, read_value};

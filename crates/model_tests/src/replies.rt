@@ -35,7 +35,7 @@ fn item_of(alloc: Global, row: &Row) -> Result<ItemRow, Fail> {
     })
 }
 
-// The steps of a walk that give these rows.
+// The steps of a walk that return these rows.
 fn steps_of(alloc: Global, steps: &[&[Row]]) -> Result<Vec<Reply>, Fail> {
     let mut replies = Vec::new(alloc);
     for rows in steps {

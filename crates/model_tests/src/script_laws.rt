@@ -1,4 +1,4 @@
-//! The laws of scripts, plays, walks, counters, generated scripts, bundles and pools are called.
+//! Calls of the laws of scripts, plays, walks, counters, generated scripts, bundles and pools.
 
 use play_laws::{
     calls_are_walks, counters_count, generated_wishes, histories_are_plays, looks_come_last,

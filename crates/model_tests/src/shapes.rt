@@ -2,7 +2,7 @@
 
 use apcu_model::{Conf, MOST_SLOTS, MOST_USABLE_WORDS, MOST_WORDS};
 
-// So many words, slots and segments, and whether the shape is good, and usable.
+// The numbers of words, slots and segments, and whether the shape is good, and usable.
 const SHAPES: [([u32; 3], bool, bool); 12] = [
     ([32, 2, 1], true, true),
     ([30, 2, 1], false, false),

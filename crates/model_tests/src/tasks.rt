@@ -1,4 +1,4 @@
-//! What a run is for, by the program's words.
+//! The task of a run, by the program's arguments.
 
 use crate::options::{PLAY, expect};
 use apcu_model::{Clock, Conf};
@@ -63,7 +63,7 @@ fn numbers_of_no_generated_run(rt: HostRuntime) -> Result<(), Fail> {
         &["--generate", ""],
         &["--generate"],
         &["--generate", "1", "--generate", "1"],
-        // The other two are looked at, with the number and without it.
+        // The other two are checked, with the number and without it.
         &["--generate", "1", "--workers", "0"],
         &["--generate", "1", "--workers", "65"],
         &["--generate", "1", "--calls", "1000001"],
@@ -122,7 +122,7 @@ fn caches_of_no_generated_run(rt: HostRuntime) -> Result<(), Fail> {
         // Too small, or with too many slots, by the least that can be.
         ("8388592", "4096", "1"),
         ("8M", "4098", "1"),
-        // Any number of segments but one.
+        // Any number of segments except one.
         ("8M", "4096", "2"),
         ("2M", "4096", "4"),
         ("64M", "32", "2"),
@@ -205,7 +205,7 @@ fn numbers_of_no_bundle_map_or_verdict(rt: HostRuntime) -> Result<(), Fail> {
         &["--verify", "1K"],
         &["--verify"],
         &["--verify=1", "--verify=1"],
-        // They are looked at in a run of another task too.
+        // They are checked in a run of another task too.
         &["--generate=0", "--map=2"],
         &["--verify=0", "--workers=0"],
     ] {
