@@ -1,4 +1,4 @@
-//! A log that exists only in proofs: a state that goes on event by event.
+//! A log that exists only in proofs: a state that changes event by event.
 #![tactic(auto)]
 
 mod log;

@@ -1,4 +1,4 @@
-//! The log, what it begins with and what it goes on by.
+//! The log, its begin and its events.
 
 ghost use Rattle.std.specs.Prelude.{◌≡◌};
 ghost use Rattle.std.specs.Borrow.{ftrue};
@@ -15,12 +15,12 @@ pub trait Happens<S> {
     ghost after: { Self → S → S };
 }
 
-/// The state that the events so far have led to, as contracts see an `S`. It exists only in proofs:
-/// it takes no bytes, and no `S` is made for it.
+/// The state after the events so far, as contracts see an `S`. It exists only in proofs: it takes
+/// no bytes, and no `S` is made for it.
 #[derive(Drop)]
 pub struct Log<S> {
     marker: PhantomData<S>,
-    /// It goes on by `then` alone.
+    /// Only `then` changes it.
     pub ghost state: { S },
 }
 
@@ -48,7 +48,7 @@ impl<S> Log<S> {
         }
     }
 
-    /// One event more.
+    /// One more event.
     pub fn then<E: Happens<S>>(&self, event: &E) -> Log<S>
         ensures { result.state ≡ E.after event.now self.now.state }
     {
