@@ -6,7 +6,7 @@ use Rattle.seg_words.specs.Blocks.{image_place}
 use Rattle.value_image.specs.Rows.{written, StandsAt}
 use Rattle.pin_table.specs.Pins.{content_of, MeetsNone, MayPin}
 
--- words of zeros, but for one
+-- words of zeros, except one
 zero-but : (n x i : ℕ) → i ≢ 5 → slice_index (slice_set (replicate n 0) 5 x) i ≡ 0
 zero-but n x i other = grind (arith, common_steps)
 
@@ -28,7 +28,7 @@ pub record HasBlock (words run : List ℕ) : Type 0 where
   pub count : slice_index words 13 ≡ 0
   pub place : image_place words 2 ≡ 14
 
--- a run was written behind the head of a block, in words that were zeros but for its length
+-- a run was written after the head of a block, in words that were zeros except its length
 pub has-block : (n x : ℕ) (words run : List ℕ) → 5 < n → x ≡ length run
     → ((row : List ℕ) (i : ℕ) → i < 14 → slice_index (written row 14 run) i ≡ slice_index row i)
     → words ≡ written (slice_set (replicate n 0) 5 x) 14 run → HasBlock words run

@@ -1,10 +1,11 @@
-//! The cache over words in memory, in so many segments or in one. `apcu_bench cache calls ROWS
-//! [SEGMENTS]` fills a cache with so many rows and as many slots, and prints for each kind of call
-//! several times the picoseconds of one, and how many calls answered true. `apcu_bench cache clear
-//! ROWS [SEGMENTS]` prints that of dropping all rows, and of dropping them because they are
-//! expired, and `apcu_bench cache info ROWS [SEGMENTS]` that of telling of them. `apcu_bench cache
-//! churn SLOTS [SEGMENTS]` prints what stores of new rows take in a cache of 64 words a slot that
-//! is kept at four fifths. Without arguments it does the same over few rows, and prints nothing.
+//! The cache over words in memory, in one or several segments. `apcu_bench cache calls ROWS
+//! [SEGMENTS]` fills a cache with this many rows and as many slots, and prints for each kind of
+//! call several times the picoseconds of one, and how many calls returned true. `apcu_bench cache
+//! clear ROWS [SEGMENTS]` prints the time of dropping all rows, and of dropping them because they
+//! are expired, and `apcu_bench cache info ROWS [SEGMENTS]` that of the information calls.
+//! `apcu_bench cache churn SLOTS [SEGMENTS]` prints the time of stores of new rows in a cache of 64
+//! words a slot that is kept four fifths full. Without arguments it does the same over few rows,
+//! and prints nothing.
 
 mod churning;
 mod keys;
@@ -42,7 +43,7 @@ fn measure_few(rt: &HostRuntime, values: &Values) -> io::Result<()> {
     measure_churn(rt, plan, 100)
 }
 
-// Measures the work of this name over so many rows.
+// Measures the work of this name over `rows` rows.
 fn measure_named(
     rt: &HostRuntime,
     values: &Values,
@@ -68,7 +69,7 @@ fn measure_named(
     }
 }
 
-/// Measures what the arguments say.
+/// Measures what the arguments ask for.
 pub fn measure(rt: &HostRuntime, args: &[String]) -> io::Result<()> {
     let Some(values) = Values::new(rt.alloc()) else {
         return Ok(());

@@ -3,7 +3,7 @@
 use std::io;
 use std::time::Instant;
 
-/// The argument of this index, or the other word where there is none.
+/// The argument of this index, or the other word if there is none.
 pub fn word_at<'a>(args: &'a [String], index: usize, otherwise: &'a str) -> &'a str {
     match args.get(index) {
         Some(word) => word.as_str(),
@@ -11,8 +11,8 @@ pub fn word_at<'a>(args: &'a [String], index: usize, otherwise: &'a str) -> &'a 
     }
 }
 
-/// The number that the argument of this index is, and 0 where it is none; the other number where
-/// there is no such argument.
+/// The number that the argument of this index is, and 0 if it is none; the other number if there is
+/// no such argument.
 pub fn number_at(args: &[String], index: usize, otherwise: u32) -> u32 {
     match args.get(index) {
         Some(word) => word.as_str().parse::<u32>().unwrap_or(0),

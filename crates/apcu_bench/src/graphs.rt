@@ -29,18 +29,18 @@ pub fn integer(alloc: Global, n: i64) -> Option<Graph> {
     single(alloc, Item::Int(n))
 }
 
-/// A truth value.
+/// A boolean.
 pub fn truth(alloc: Global) -> Option<Graph> {
     single(alloc, Item::Bool(true))
 }
 
-/// A byte string of so many bytes.
+/// A byte string of this many bytes.
 pub fn string(alloc: Global, len: u32) -> Option<Graph> {
     let bytes = Vec::from_elem(alloc, b'x', len as usize).ok()?;
     single(alloc, Item::Str(Bytes::from_vec(bytes)))
 }
 
-/// An array of so many integers.
+/// An array of this many integers.
 pub fn integers(alloc: Global, count: u32) -> Option<Graph> {
     let mut builder = Builder::new(alloc);
     push(&mut builder, Item::OpenArray)?;
@@ -53,7 +53,7 @@ pub fn integers(alloc: Global, count: u32) -> Option<Graph> {
     seal(builder)
 }
 
-/// So many arrays, each in the one before.
+/// This many arrays, each in the one before.
 pub fn nested(alloc: Global, levels: u32) -> Option<Graph> {
     let mut builder = Builder::new(alloc);
     push(&mut builder, Item::OpenArray)?;

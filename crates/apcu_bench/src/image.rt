@@ -1,7 +1,6 @@
 //! Images and texts of values: `apcu_bench image WORK GRAPH ROUNDS` writes an image, reads a graph
-//! back, copies the graph, copies as many words, or writes or reads the value's text, so many
-//! times. It prints nothing: who calls it looks at the clock. Without arguments it reads one graph
-//! back.
+//! from one, copies the graph, copies as many words, or writes or reads the value's text, ROUNDS
+//! times. It prints nothing: the caller measures the time. Without arguments it reads one graph.
 
 pub mod often;
 mod texts;
@@ -49,7 +48,7 @@ fn do_work(alloc: Global, work: &str, name: &str, rounds: u32) -> Option<()> {
     Some(())
 }
 
-/// Does what the arguments say.
+/// Does what the arguments ask for.
 pub fn measure(rt: &HostRuntime, args: &[String]) {
     let work = word_at(args, 0, "unpersist");
     let name = word_at(args, 1, "nested");

@@ -1,4 +1,4 @@
-//! A program that measures parts of the cache, and promises nothing to anybody.
+//! A program that measures parts of the cache, and promises nothing.
 //!
 //! It is called as `apcu_bench image ..`, `apcu_bench sma ..`, `apcu_bench pins ..` or `apcu_bench
 //! cache ..`. Without arguments it does a little of each, and prints nothing.

@@ -1,7 +1,7 @@
-//! Pinned blocks: `apcu_bench pins WORK ROUNDS SPARE` stores a text of 64 KB in a block with so
-//! many spare words behind it, pins it, and so many times fetches it through its image, loads each
-//! word of it, loads and stores each word, takes memory for it, or reads it from words in memory.
-//! It prints nothing: who calls it looks at the clock. Without arguments it fetches once.
+//! Pinned blocks: `apcu_bench pins WORK ROUNDS SPARE` stores a text of 64 KB in a block with SPARE
+//! words after it, pins it, and ROUNDS times fetches it through its image, loads each word of it,
+//! loads and stores each word, allocates memory for it, or reads it from words in memory. It prints
+//! nothing: the caller measures the time. Without arguments it fetches once.
 
 mod often;
 mod pinned;
@@ -13,7 +13,7 @@ use crate::pins::often::{fetch_often, load_often, reserve_often, store_often};
 use crate::pins::pinned::pinned;
 use std::alloc::Global;
 
-/// How many bytes the text has.
+/// The number of bytes of the text.
 const TEXT_BYTES: u32 = 65_536;
 
 fn do_work(alloc: Global, work: &str, rounds: u32, spare: u32) -> Option<()> {
@@ -42,7 +42,7 @@ fn do_work(alloc: Global, work: &str, rounds: u32, spare: u32) -> Option<()> {
     Some(())
 }
 
-/// Does what the arguments say.
+/// Does what the arguments ask for.
 pub fn measure(rt: &HostRuntime, args: &[String]) {
     let work = word_at(args, 0, "fetch");
     let rounds = number_at(args, 1, 1);

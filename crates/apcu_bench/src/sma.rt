@@ -1,7 +1,7 @@
-//! The allocator: `apcu_bench sma GAPS [SEGMENTS]` fills 32 MB of words, in so many segments or in
-//! one, with blocks and that many gaps, and prints nanoseconds: of giving a block and taking one of
-//! its size, among 64 blocks, among all, and among all by a walk; and of a `keep` of 64 blocks.
-//! Without arguments it does the same over few words, and prints nothing.
+//! The allocator: `apcu_bench sma GAPS [SEGMENTS]` fills 32 MB of words, in one or several
+//! segments, with blocks and that many gaps, and prints nanoseconds: of freeing a block and taking
+//! one of its size, among 64 blocks, among all, and among all by a walk; and of a `keep` of 64
+//! blocks. Without arguments it does the same over few words, and prints nothing.
 
 ghost use Rattle.std.specs.Prelude.{◌≡◌, ℕ, false, ◌+◌, ◌*◌, ◌%◌, ◌/◌, ◌^◌, ◌<◌, ◌≤◌, IfOk};
 ghost use Rattle.seg_words.specs.Windows.{is_named};
@@ -21,7 +21,7 @@ use std::alloc::{AllocError, Global};
 use std::io;
 
 // The nanoseconds of a pair near the front, and of one anywhere, over words that are laid out
-// first; the largest number where they could not be.
+// first; the largest number if they could not be.
 fn pairs_over<S: Segment>(
     rt: &HostRuntime,
     sma: &mut Sma,
@@ -85,7 +85,7 @@ fn keep_over<S: Segment>(
     fill::time_keep(rt, sma, seg, few.as_slice())
 }
 
-// So many words in segments of `piece`, and an allocator over those from `from` on.
+// This many words in segments of `piece`, and an allocator over those from `from` on.
 fn formatted(
     alloc: Global,
     words: u32,
@@ -105,7 +105,7 @@ fn formatted(
     Ok((sma, seg))
 }
 
-// The number of words of a segment, where these words are so many segments.
+// The number of words of a segment, if these words are this many segments.
 fn piece_of(words: u32, segments: u32) -> u32
     ensures { result % 2 ≡ 0 }
 {
@@ -153,7 +153,7 @@ fn measure_keep(
     keep_over(rt, &mut sma, &mut seg, &mut places, units, every)
 }
 
-// Measures over 32 MB with so many gaps, one at least, and prints what it took.
+// Measures over 32 MB with this many gaps, at least one, and prints the times.
 fn tell(rt: &HostRuntime, asked: u32, segments: u32) -> io::Result<()> {
     let gaps = asked.max(1);
     let every = (100_000 / gaps).max(1);
@@ -163,7 +163,7 @@ fn tell(rt: &HostRuntime, asked: u32, segments: u32) -> io::Result<()> {
     Ok(())
 }
 
-/// Measures what the arguments say.
+/// Measures what the arguments ask for.
 pub fn measure(rt: &HostRuntime, args: &[String]) -> io::Result<()> {
     if args.is_empty() {
         let _pairs = measure_pairs(rt, 4096, 64, 2, 90, 3)?;

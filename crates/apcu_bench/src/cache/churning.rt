@@ -1,5 +1,5 @@
-//! Stores of new rows in a cache that is kept at four fifths: before each, random rows are deleted
-//! until its row finds room below that.
+//! Stores of new rows in a cache that is kept four fifths full: before each, random rows are
+//! deleted until there is room for its row below that.
 
 use crate::cache::keys::{FIRST, key_of};
 use crate::cache::plan::Plan;
@@ -18,21 +18,21 @@ const STEP: u32 = 32;
 
 const TEXTS: u32 = 63;
 
-// How many words a row takes beside those of its text: its first words, its key of 8 bytes and what
-// stands before the text.
+// The number of words of a row besides those of its text: its first words, its key of 8 bytes and
+// what precedes the text.
 const BESIDE: u32 = 15;
 
 // The moment of all calls.
 const NOW: u64 = 1000;
 
-// A row that stands: the number of its key, and how many words it takes.
+// An existing row: the number of its key, and the number of its words.
 #[derive(Clone, Copy)]
 struct Standing {
     key: u32,
     words: u32,
 }
 
-// The rows that stand, and how many words they take.
+// The existing rows, and the number of their words.
 #[derive(Drop)]
 struct Rows {
     standing: Vec<Standing>,
@@ -52,7 +52,7 @@ impl Rows {
         }
     }
 
-    // Takes a random row out of those that stand.
+    // Removes a random row from the existing ones.
     fn take_one(&mut self) -> Option<Standing> {
         let many = u32::try_from(self.standing.len()).unwrap_or(u32::MAX);
         let at = self.draw(many) as usize;
@@ -83,8 +83,8 @@ impl Rows {
     }
 }
 
-// Stores one new row behind as many deletions as make room for it below `most` words, and says the
-// nanoseconds of the store.
+// Stores one new row after as many deletions as make room for it below `most` words, and returns
+// the nanoseconds of the store.
 fn churn_once(
     rt: &HostRuntime,
     cache: &mut WordCache,
@@ -125,7 +125,7 @@ fn texts(alloc: Global) -> Result<Vec<Graph>, AllocError> {
     Ok(texts)
 }
 
-// The nanoseconds of each of so many stores, once the cache is filled, from the least on.
+// The nanoseconds of each of this many stores, after the cache is filled, in rising order.
 fn times(rt: &HostRuntime, cache: &mut WordCache, most: u32, stores: u32) -> io::Result<Vec<u64>> {
     let alloc = rt.alloc();
     let texts = texts(alloc)?;
@@ -149,14 +149,14 @@ fn times(rt: &HostRuntime, cache: &mut WordCache, most: u32, stores: u32) -> io:
     Ok(times)
 }
 
-// The index of the time that so many of 10,000 don't pass, where the least is first.
+// The index of the time that `part` of 10,000 do not exceed, if the lowest is first.
 fn index_of(many: usize, part: usize) -> usize {
     many.saturating_mul(part).div_ceil(10_000).saturating_sub(1)
 }
 
-/// Measures so many stores, with as many slots as the plan has rows, in 64 words a slot, and prints
-/// the median of their times and those that one in a hundred, in a thousand and in ten thousand
-/// pass.
+/// Measures this many stores, with as many slots as the plan has rows, in 64 words a slot, and
+/// prints the median of their times and those that one in a hundred, in a thousand and in ten
+/// thousand exceeds.
 pub fn measure_churn(rt: &HostRuntime, plan: Plan, stores: u32) -> io::Result<()> {
     let slots = plan.rows.clamp(2, 1_048_576) / 2 * 2;
     let conf = plan.shape(slots.saturating_mul(64), slots, 0);

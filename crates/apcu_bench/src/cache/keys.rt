@@ -19,7 +19,7 @@ pub fn key_of(number: u32) -> [u8; 8] {
     key
 }
 
-/// The numbers of every so many of the first so many keys, from one of them on.
+/// The numbers of every `step`-th of the first `rows` keys, beginning with one of them.
 pub fn numbers(alloc: Global, from: u32, rows: u32, step: u32) -> Result<Vec<u32>, AllocError>
     requires { 1 ≤ step }
 {
@@ -32,7 +32,7 @@ pub fn numbers(alloc: Global, from: u32, rows: u32, step: u32) -> Result<Vec<u32
     Ok(numbers)
 }
 
-/// Brings numbers into a random order, and says the next state of the random numbers.
+/// Puts numbers into a random order, and returns the next state of the random numbers.
 pub fn shuffle(numbers: &mut [u32], first: u64) -> u64
     ensures { length numbers.new ≡ length numbers.old }
 {

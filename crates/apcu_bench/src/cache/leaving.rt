@@ -1,4 +1,4 @@
-//! All rows at once: dropped by a call, or because their time is over.
+//! All rows at once: dropped by a call, or because they have expired.
 
 use crate::cache::keys::{FIRST, key_of};
 use crate::cache::plan::Plan;
@@ -9,10 +9,10 @@ use apcu_model::Conf;
 use std::io;
 use std::time::Instant;
 
-// How many words a row of eight bytes under a key of eight takes.
+// The number of words of a row of eight bytes under a key of eight.
 const ROW: u32 = 16;
 
-// The shape of a cache that so many rows fill.
+// The shape of a cache that this many rows fill.
 fn shape(plan: Plan) -> Conf {
     let slots = plan.rows.clamp(2, 900_000) / 2 * 2;
     plan.shape(slots * (ROW + 1), slots, 3600)
@@ -32,7 +32,7 @@ fn time_clear(
     Ok((since(rt, start)?, filled))
 }
 
-// Fills the cache, and drops all rows by a store once their time is over: nanoseconds, and how many
+// Fills the cache, and drops all rows by a store after they have expired: nanoseconds, and how many
 // there are then.
 fn time_expiry(
     rt: &HostRuntime,
@@ -62,7 +62,7 @@ fn report(
     plan.tell(rt, "expire", expired.saturating_mul(1000), left)
 }
 
-// Measures both as often as that is asked for.
+// Measures both as often as requested.
 fn report_often(
     rt: &HostRuntime,
     cache: &mut WordCache,

@@ -7,7 +7,7 @@ use std::io;
 #[derive(Clone, Copy)]
 pub struct Plan {
     pub rows: u32,
-    /// How many segments the cache has.
+    /// The number of segments of the cache.
     pub segments: u32,
     /// How often each kind of work is measured.
     pub times: u32,
@@ -16,7 +16,7 @@ pub struct Plan {
 }
 
 impl Plan {
-    /// The shape of a cache of so many slots and of about so many words.
+    /// The shape of a cache of this many slots and of about this many words.
     pub fn shape(self, words: u32, slots: u32, ttl: u32) -> Conf {
         let segments = self.segments.clamp(1, 64);
         Conf {
@@ -27,7 +27,7 @@ impl Plan {
         }
     }
 
-    /// Prints of a kind of work its picoseconds, and how many there were, where that is asked for.
+    /// Prints the picoseconds of a kind of work, and how many there were, if requested.
     pub fn tell(self, rt: &HostRuntime, name: &str, time: u64, count: u64) -> io::Result<()> {
         if !self.is_loud {
             return Ok(());

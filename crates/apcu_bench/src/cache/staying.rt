@@ -1,4 +1,4 @@
-//! Calls on a cache that keeps its rows, or gets them back.
+//! Calls on a cache that keeps its rows, or gets them again.
 
 use crate::cache::keys::{numbers, shuffle};
 use crate::cache::plan::Plan;
@@ -8,7 +8,7 @@ use crate::cache::word_cache::{Act, WordCache};
 use apcu_model::{Conf, MOST_SLOTS, MOST_WORDS};
 use std::io;
 
-// Of so many rows one has a short text, one a long one, and the others a truth value.
+// In each group of this many rows one has a short text, one a long one, and the others a boolean.
 const STEP: u32 = 10;
 
 // The moment of all calls.
@@ -27,7 +27,7 @@ fn report(
     plan.tell(rt, step.name(), pass.time, pass.answers)
 }
 
-/// The shape of a cache of so many rows, with as many slots.
+/// The shape of a cache of this many rows, with as many slots.
 pub fn shape(plan: Plan) -> Conf {
     let slots = plan.rows.clamp(2, MOST_SLOTS) / 2 * 2;
     plan.shape((18 * slots).clamp(64, MOST_WORDS), slots, 0)
@@ -63,8 +63,8 @@ fn report_integers(
     Ok(())
 }
 
-// Measures each kind of call so many times: on texts, then with an integer in each short one's row.
-// Prints how many rows there are then.
+// Measures each kind of call this many times: on texts, then with an integer in each short one's
+// row. Prints how many rows there are then.
 fn report_all(
     rt: &HostRuntime,
     cache: &mut WordCache,

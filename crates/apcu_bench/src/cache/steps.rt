@@ -28,7 +28,7 @@ pub enum Step {
     Dec,
 }
 
-/// Calls under keys of texts, in an order in which each meets what it is to meet.
+/// Calls under keys of texts, in an order in which each finds what it should find.
 pub const TEXTS: [Step; 18] = [
     Step::Nothing,
     Step::FetchShort,
@@ -54,7 +54,7 @@ pub const TEXTS: [Step; 18] = [
 pub const INTEGERS: [Step; 4] = [Step::FetchInteger, Step::Cas, Step::Inc, Step::Dec];
 
 impl Step {
-    /// What it is called in a table.
+    /// Its name in a table.
     pub fn name(self) -> &'static str {
         match self {
             Step::Nothing => "nothing",

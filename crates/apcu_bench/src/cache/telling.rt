@@ -1,4 +1,4 @@
-//! What a cache tells of itself and of its words.
+//! The information calls on a cache and its words.
 
 use crate::cache::keys::numbers;
 use crate::cache::plan::Plan;
@@ -10,16 +10,16 @@ use std::alloc::{AllocError, Global};
 use std::io;
 use std::time::Instant;
 
-// Of so many rows one has a text, and is deleted again.
+// In each group of this many rows one has a text, and is deleted again.
 const STEP: u32 = 10;
 
 // The moment of all calls.
 const NOW: u64 = 1000;
 
-// What is told, in turn.
+// The information calls, in turn.
 const ALL: [Told; 4] = [Told::Counts, Told::Rows, Told::Free, Told::Gaps];
 
-// What it is called in a table.
+// Its name in a table.
 fn name(told: Told) -> &'static str {
     match told {
         Told::Counts => "cache_info_limited",
@@ -29,7 +29,7 @@ fn name(told: Told) -> &'static str {
     }
 }
 
-// Measures one thing that is told, and prints what was measured.
+// Measures one information call, and prints what was measured.
 fn report(rt: &HostRuntime, cache: &mut WordCache, told: Told, plan: Plan) -> io::Result<()> {
     let start = Instant::now(rt)?;
     let places = cache.tell(rt.alloc(), told)?;
@@ -37,7 +37,7 @@ fn report(rt: &HostRuntime, cache: &mut WordCache, told: Told, plan: Plan) -> io
     plan.tell(rt, name(told), spent, u64::from(places))
 }
 
-// Measures each thing that is told so many times.
+// Measures each information call this many times.
 fn report_often(rt: &HostRuntime, cache: &mut WordCache, plan: Plan) -> io::Result<()> {
     for _ in 0..plan.times {
         for told in ALL {
@@ -47,7 +47,7 @@ fn report_often(rt: &HostRuntime, cache: &mut WordCache, plan: Plan) -> io::Resu
     Ok(())
 }
 
-// Stores so many rows, of which each tenth leaves a gap.
+// Stores this many rows, of which each tenth leaves a gap.
 fn fill(
     alloc: Global,
     cache: &mut WordCache,
@@ -60,7 +60,7 @@ fn fill(
     Ok(())
 }
 
-// Measures what is told of a cache that was filled.
+// Measures the information calls on a cache that was filled.
 fn report_filled(
     rt: &HostRuntime,
     cache: &mut WordCache,
@@ -71,8 +71,8 @@ fn report_filled(
     report_often(rt, cache, plan)
 }
 
-/// Measures what is told of a cache of so many rows, of which each tenth left a gap, and prints
-/// what was measured.
+/// Measures the information calls on a cache of this many rows, of which each tenth left a gap, and
+/// prints what was measured.
 pub fn measure_telling(rt: &HostRuntime, plan: Plan, values: &Values) -> io::Result<()> {
     let conf = shape(plan);
     if !conf.usable() {

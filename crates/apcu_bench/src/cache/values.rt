@@ -17,7 +17,7 @@ pub struct Values {
 }
 
 impl Values {
-    /// The values; `None` where memory is missing.
+    /// The values; `None` if there is no memory.
     pub fn new(alloc: Global) -> Option<Values> {
         Some(Values {
             short: string(alloc, 8)?,

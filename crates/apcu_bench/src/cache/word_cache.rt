@@ -31,56 +31,56 @@ const BATCH: usize = 10_000;
 /// A call under a key.
 #[derive(Clone, Copy)]
 pub enum Act<'a> {
-    /// No call: the key alone is made.
+    /// No call: only the key is made.
     Nothing,
-    /// A store, with a time to live; the flag tells whether a live row stays.
+    /// A store, with a time to live; the flag is whether a live row stays.
     Store(&'a Graph, u32, bool),
-    /// A look-up that answers a scalar at once.
+    /// A look-up that returns a scalar at once.
     Look,
-    /// A look-up, and a copy of the value in the block that it answers.
+    /// A look-up, and a copy of the value in the block that it returns.
     Fetch,
     Exists,
     Delete,
-    /// Counts by so much.
+    /// Counts by this step.
     Inc(i64),
     /// Sets the integer that it expects.
     Cas(i64),
-    /// Gives this value where no row is found, and stores it. The generator is made for the call.
+    /// Returns this value if no row is found, and stores it. The generator is made for the call.
     Entry(&'a Graph),
-    /// Tells of the row.
+    /// Information about the row.
     KeyInfo,
 }
 
-/// What is told of a cache.
+/// An information call on a cache.
 #[derive(Clone, Copy)]
 pub enum Told {
-    /// What is counted, and the words.
+    /// The counters, and the words.
     Counts,
-    /// Each row and each removed one beside it.
+    /// Also each row and each removed one.
     Rows,
-    /// How many words are free.
+    /// The number of free words.
     Free,
-    /// Each gap beside it.
+    /// Also each gap.
     Gaps,
 }
 
 /// What was measured of calls of one kind.
 #[derive(Clone, Copy)]
 pub struct Pass {
-    /// The least picoseconds a call of a batch.
+    /// The lowest picoseconds per call of a batch.
     pub time: u64,
-    /// How many calls answered as a cache that has the row, or takes it.
+    /// How many calls returned what a cache returns that has the row, or takes it.
     pub answers: u64,
 }
 
-/// A cache over words in memory. Contracts see the cache of one thread.
+/// A cache over words in memory. Contracts see the single-threaded cache.
 #[derive(Drop)]
 pub struct WordCache {
     words: VecWords,
     core: Core,
 }
 
-// The entry of a key that gives this value; `None` where memory is missing.
+// The entry of a key with this value; `None` if there is no memory.
 fn generator(alloc: Global, key: &[u8; 8], value: &Graph) -> Option<Gen>
     ensures { IfSome result (λ generator. length generator.levels ≤ most_levels) }
 {
@@ -89,7 +89,7 @@ fn generator(alloc: Global, key: &[u8; 8], value: &Graph) -> Option<Gen>
     Some(Gen::entry(key, 0, Box::new(alloc, inner).ok()?))
 }
 
-// A copy of the value of the row at `at`; `None` where memory is missing.
+// A copy of the value of the row at `at`; `None` if there is no memory.
 fn copy_at(alloc: Global, slots: &EntrySlots, words: &mut VecWords, at: u32) -> Option<Graph>
     requires stand { Stand ⟦<VecWords as WordsIn>⟧ slots.now words.old }
     requires there { (row : Row) × IsListed (entries slots.now) at row }
@@ -133,7 +133,7 @@ impl WordCache {
         Ok(WordCache { words, core })
     }
 
-    /// How many rows there are.
+    /// The number of rows.
     pub fn rows(&self) -> u64
         ensures { result ≡ length self.now.rows }
     {
@@ -145,8 +145,8 @@ impl WordCache {
         self.core.clear(&mut self.words, t);
     }
 
-    // A fetch in a worker's steps: a look-up, and then a copy of the image in the row's block. The
-    // answer is whether the value is a string with bytes.
+    // A fetch in a worker's steps: a look-up, and then a copy of the image in the row's block.
+    // Returns whether the value is a string with bytes.
     fn fetch(&mut self, alloc: Global, key: &[u8; 8], t: u64) -> bool {
         let Look::Hit(at) = self.core.look(&mut self.words, key, t) else {
             return false;
@@ -169,7 +169,7 @@ impl WordCache {
         }
     }
 
-    // Whether something is told of the row.
+    // Whether there is information about the row.
     #[tactic(auto, using(crate::proofs::UnchangedCache::still_stands))]
     fn tell_key(&mut self, alloc: Global, key: &[u8; 8], t: u64) -> bool {
         match key_info(alloc, &mut self.core, &mut self.words, key, t) {
@@ -178,7 +178,7 @@ impl WordCache {
         }
     }
 
-    /// One call at the moment `t`; whether the row is there, or was taken.
+    /// One call at the moment `t`; whether the row exists, or was stored.
     pub fn call(&mut self, alloc: Global, key: &[u8; 8], act: Act<'_>, t: u64) -> bool {
         let (core, words) = (&mut self.core, &mut self.words);
         match act {
@@ -203,7 +203,7 @@ impl WordCache {
         }
     }
 
-    // Tells of the rows; how many places the value has.
+    // Information about the rows; returns the number of places of the value.
     #[tactic(auto, using(crate::proofs::UnchangedCache::still_stands))]
     fn tell_rows(&mut self, alloc: Global, limited: bool) -> Result<u32, AllocError> {
         match cache_info(alloc, &mut self.core, &mut self.words, limited) {
@@ -212,7 +212,7 @@ impl WordCache {
         }
     }
 
-    // Tells of the words; how many places the value has.
+    // Information about the words; returns the number of places of the value.
     #[tactic(auto, using(crate::proofs::UnchangedCache::still_stands))]
     fn tell_words(&mut self, alloc: Global, limited: bool) -> Result<u32, AllocError> {
         match sma_info(alloc, &mut self.core, &mut self.words, limited) {
@@ -221,7 +221,7 @@ impl WordCache {
         }
     }
 
-    /// Tells of the cache; how many places the value has.
+    /// Information about the cache; returns the number of places of the value.
     pub fn tell(&mut self, alloc: Global, told: Told) -> Result<u32, AllocError> {
         match told {
             Told::Counts => self.tell_rows(alloc, true),
@@ -231,7 +231,7 @@ impl WordCache {
         }
     }
 
-    /// Calls of one kind under keys of these numbers; how many answered true.
+    /// Calls of one kind under keys of these numbers; how many returned true.
     #[inline(never)]
     pub fn calls(&mut self, alloc: Global, numbers: &[u32], act: Act<'_>, t: u64) -> u64 {
         let mut answers: u64 = 0;
@@ -266,8 +266,8 @@ impl WordCache {
         Ok(Pass { time, answers })
     }
 
-    /// Stores rows under the first so many keys: of each `step` the first has the short text, the
-    /// second the long one, and the others have the truth value.
+    /// Stores rows under the first `rows` keys: of each `step` the first has the short text, the
+    /// second the long one, and the others have the boolean.
     pub fn fill(&mut self, alloc: Global, rows: u32, step: u32, values: &Values, ttl: u32, t: u64)
         requires { 1 ≤ step }
     {

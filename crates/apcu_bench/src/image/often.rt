@@ -7,11 +7,11 @@ use seg_words::{Segment, VecWords, WordsIn};
 use std::alloc::Global;
 use value_image::{persist, unpersist};
 
-/// How many words an image has at most.
+/// The largest number of words of an image.
 pub const MOST_WORDS: u64 = 1 << 20;
 
-/// A row of as many words as the graph's image has; `None` where these are too many, or memory is
-/// missing.
+/// A row of as many words as the graph's image has; `None` if these are too many, or there is no
+/// memory.
 pub fn row_of(alloc: Global, g: &Graph) -> Option<VecWords> {
     let words = g.words();
     if words > MOST_WORDS {
@@ -20,7 +20,7 @@ pub fn row_of(alloc: Global, g: &Graph) -> Option<VecWords> {
     VecWords::new(alloc, words as u32).ok()
 }
 
-/// Writes the image so many times.
+/// Writes the image `rounds` times.
 pub fn persist_often(row: &mut VecWords, g: &Graph, rounds: u32) {
     for _ in 0..rounds {
         if u64::from(row.len()) < g.words() {
@@ -30,7 +30,7 @@ pub fn persist_often(row: &mut VecWords, g: &Graph, rounds: u32) {
     }
 }
 
-/// Writes the image once, and reads the graph from it so many times.
+/// Writes the image once, and reads the graph from it `rounds` times.
 pub fn unpersist_often(alloc: Global, row: &mut VecWords, g: &Graph, rounds: u32) -> Option<u32> {
     if u64::from(row.len()) < g.words() {
         return None;
@@ -45,7 +45,7 @@ pub fn unpersist_often(alloc: Global, row: &mut VecWords, g: &Graph, rounds: u32
     Some(places)
 }
 
-/// Copies the graph so many times: what the memory of an owned graph costs.
+/// Copies the graph `rounds` times: the cost of the memory of an owned graph.
 pub fn graph_often(alloc: Global, g: &Graph, rounds: u32) -> Option<u32> {
     let mut places = 0;
     'rounds: for _ in 0..rounds {
@@ -65,7 +65,7 @@ fn copy_words(row: &mut VecWords, from: &[u64])
     }
 }
 
-/// Copies so many words so many times, word by word.
+/// Copies these words `rounds` times, word by word.
 pub fn copy_often(row: &mut VecWords, from: &[u64], rounds: u32) {
     for _ in 0..rounds {
         if (row.len() as usize) < from.len() {

@@ -4,7 +4,7 @@ use notation::{ByteOut, Cursor, read_value, write_value};
 use php_graph::Graph;
 use std::alloc::Global;
 
-/// Writes the value's text so many times, over itself.
+/// Writes the value's text `rounds` times, over itself.
 pub fn write_often(alloc: Global, g: &Graph, rounds: u32) -> Option<()> {
     let mut out = ByteOut::new(alloc);
     for _ in 0..rounds {
@@ -14,7 +14,7 @@ pub fn write_often(alloc: Global, g: &Graph, rounds: u32) -> Option<()> {
     Some(())
 }
 
-/// Writes the value's text once, and reads the value from it so many times.
+/// Writes the value's text once, and reads the value from it `rounds` times.
 pub fn read_often(alloc: Global, g: &Graph, rounds: u32) -> Option<u32> {
     let mut out = ByteOut::new(alloc);
     write_value(g, 0, &mut out).ok()?;

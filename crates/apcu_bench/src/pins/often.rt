@@ -28,7 +28,7 @@ fn fetch(alloc: Global, table: &PinTable, copying: &mut Copying, g: &Graph) -> O
     back.ok()
 }
 
-/// Fetches the value of the pinned block so many times.
+/// Fetches the value of the pinned block `rounds` times.
 pub fn fetch_often(
     alloc: Global,
     table: &PinTable,
@@ -62,7 +62,7 @@ fn load_all(table: &PinTable, copying: &mut Copying) -> u64
     sum
 }
 
-/// Loads each word of the pinned block's image so many times.
+/// Loads each word of the pinned block's image `rounds` times.
 pub fn load_often(table: &PinTable, copying: &mut Copying, rounds: u32) -> u64
     requires table { copying.old.table ≡ table.now }
 {
@@ -86,7 +86,7 @@ fn store_all(table: &PinTable, copying: &mut Copying, row: &mut [u64])
     }
 }
 
-/// Stores each word of the pinned block's image into memory that is there, so many times.
+/// Stores each word of the pinned block's image into existing memory, `rounds` times.
 pub fn store_often(
     alloc: Global,
     table: &PinTable,
@@ -102,7 +102,7 @@ pub fn store_often(
     row.pop()
 }
 
-/// Takes memory for so many bytes, and lets it go, so many times.
+/// Allocates memory for `bytes` bytes, and frees it, `rounds` times.
 pub fn reserve_often(alloc: Global, bytes: u32, rounds: u32) -> Option<u64> {
     let mut room: u64 = 0;
     'rounds: for _ in 0..rounds {

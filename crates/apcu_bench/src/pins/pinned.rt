@@ -14,13 +14,13 @@ use seg_words::{HEAD_WORDS, IMAGE_LENGTH, Segment, VecWords, WordsIn};
 use std::alloc::Global;
 use value_image::{images_are_runs, persist, runs_are_written};
 
-/// How many words stand behind the block at most.
+/// The largest number of words after the block.
 const MOST_SPARE: u32 = 1 << 20;
 
-/// Where the block stands.
+/// The place of the block.
 const BLOCK: u32 = 2;
 
-// Words with one block, whose key is empty and whose value is this graph, and so many words behind
+// Words with one block, whose key is empty and whose value is this graph, and `spare` words after
 // it.
 fn block_of(alloc: Global, g: &Graph, spare: u32) -> Option<VecWords>
     ensures block { IfSome result (λ w. MayPin (⟦<VecWords as WordsIn>⟧.words w) (0 ∷ []) 2) }
@@ -52,8 +52,8 @@ fn only_pass(table: &PinTable, budgets: &[u32], passes: &mut Passes) -> Option<P
     passes.pop()
 }
 
-/// A table with a block of this value and so many words behind it, and what its worker has that
-/// copies from the block.
+/// A table with a block of this value and `spare` words after it, and its worker's copy from the
+/// block.
 pub fn pinned(alloc: Global, g: &Graph, spare: u32) -> Option<(PinTable, Copying)>
     ensures table { IfSome result (λ r. r.1.table ≡ r.0) }
     ensures image { IfSome result (λ r.

@@ -1,4 +1,4 @@
-//! Pairs of a block that is given and one that is taken, and the time of each.
+//! Pairs of a block that is freed and one that is taken, and the time of each.
 
 ghost use Rattle.std.specs.Prelude.{◌≡◌, ℕ, ◌<◌, ◌≤◌, false, length};
 ghost use Rattle.seg_words.specs.Windows.{is_named};
@@ -42,7 +42,7 @@ pub fn time_pairs<S: Segment>(
     Ok([near / u64::from(PAIRS), far / u64::from(PAIRS)])
 }
 
-// The nanoseconds of the pairs that are measured at once. The state of the random numbers goes on.
+// The nanoseconds of the pairs that are measured at once. The random numbers continue from `state`.
 fn time_some<S: Segment>(
     rt: &HostRuntime,
     sma: &mut Sma,
@@ -65,8 +65,8 @@ fn time_some<S: Segment>(
     since(rt, start)
 }
 
-// Gives a block and takes one of its size, so many times: a random one of the first so many blocks
-// of the list. Says the state of the random numbers.
+// Frees a block and takes one of its size, this many times: a random one of the first blocks of the
+// list. Returns the state of the random numbers.
 fn pairs<S: Segment>(
     sma: &mut Sma,
     seg: &mut S,
@@ -89,18 +89,18 @@ fn pairs<S: Segment>(
     for _ in 0..rounds {
         let ahead = drawn(state);
         if among > 0 && among <= places.len() {
-            // The place of the next pair is called for while this pair is made: the list is the
-            // measure's own, and what it misses in the processor's cache is no time of a pair.
+            // The place of the next pair is fetched while this pair is made: the list belongs to
+            // the measurement, and its cache misses are no time of a pair.
             least = least.min(places[(ahead >> 33) as usize % among]);
             pair(sma, seg, places, (state >> 33) as usize % among);
         }
         state = ahead;
     }
-    // No block stands at 0. The processor has to look all the same.
+    // There is no block at 0. The processor has to read it all the same.
     if least == 0 { 0 } else { state }
 }
 
-// Gives the block of this index, and takes one of its size, which takes its place in the list.
+// Frees the block of this index, and takes one of its size, which replaces it in the list.
 fn pair<S: Segment>(sma: &mut Sma, seg: &mut S, places: &mut Vec<u32>, index: usize)
     requires index { index < length places.old.items }
     requires ready { IsReady sma.old (S.words seg.old) (S.aside seg.old) }

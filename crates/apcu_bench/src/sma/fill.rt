@@ -15,13 +15,13 @@ use std::alloc::{AllocError, Global};
 use std::io;
 use std::time::Instant;
 
-/// How many words a block has.
+/// The number of words of a block.
 pub const BLOCK: u32 = 12;
-/// How many words a gap has that is made between blocks: too few for a block.
+/// The number of words of a gap that is made between blocks: too few for a block.
 pub const GAP: u32 = 4;
 
-// Takes three blocks for each unit, and in every so many units another one before the third, which
-// is not listed.
+// Takes three blocks for each unit, and in every n-th unit another one before the third, which is
+// not listed.
 fn fill<S: Segment>(
     sma: &mut Sma,
     seg: &mut S,
@@ -44,8 +44,7 @@ fn fill<S: Segment>(
     Ok(())
 }
 
-// Takes three blocks, and where that is asked for another one before the third, which is not
-// listed.
+// Takes three blocks, and if requested another one before the third, which is not listed.
 fn add_unit<S: Segment>(
     sma: &mut Sma,
     seg: &mut S,
@@ -66,7 +65,7 @@ fn add_unit<S: Segment>(
     add(sma, seg, places)
 }
 
-// Takes a block, where one fits, and lists it.
+// Takes a block, if one fits, and lists it.
 fn add<S: Segment>(sma: &mut Sma, seg: &mut S, places: &mut Vec<u32>) -> Result<(), AllocError>
     requires ready { IsReady sma.old (S.words seg.old) (S.aside seg.old) }
     requires live { AreLive (live_blocks (S.words seg.old) sma.old.bounds.from) places.old.items }
@@ -83,7 +82,7 @@ fn add<S: Segment>(sma: &mut Sma, seg: &mut S, places: &mut Vec<u32>) -> Result<
     Ok(())
 }
 
-// Takes the words of a gap, where that is asked for and they fit, and does not list them.
+// Takes the words of a gap, if requested and if they fit, and does not list them.
 fn leave<S: Segment>(sma: &mut Sma, seg: &mut S, is_asked: bool)
     requires ready { IsReady sma.old (S.words seg.old) (S.aside seg.old) }
     ensures ready { IsReady sma.new (S.words seg.new) (S.aside seg.new) }
@@ -100,7 +99,7 @@ fn leave<S: Segment>(sma: &mut Sma, seg: &mut S, is_asked: bool)
     let _taken = sma.take(seg, GAP);
 }
 
-// Whether each place but the first lies past the one before.
+// Whether each place except the first is after the one before.
 fn are_rising(places: &[u32]) -> bool
     ensures { result ≡ true → (i : ℕ) → i + 1 < length places.now
         → slice_index places.now i < slice_index places.now (i + 1) }
@@ -130,7 +129,7 @@ fn keep_listed<S: Segment>(sma: &mut Sma, seg: &mut S, places: &[u32])
     sma.keep(seg, places);
 }
 
-// Keeps the blocks at these places where they rise, and makes gaps of all else; whether it did so.
+// Keeps the blocks at these places if they rise, and makes gaps of all else; whether it did so.
 fn keep_rising<S: Segment>(sma: &mut Sma, seg: &mut S, places: &[u32]) -> bool
     requires ready { IsReady sma.old (S.words seg.old) (S.aside seg.old) }
     requires closed { (at : ℕ) → is_named (S.aside seg.old).windows at ≡ false }
@@ -147,7 +146,7 @@ fn keep_rising<S: Segment>(sma: &mut Sma, seg: &mut S, places: &[u32]) -> bool
     true
 }
 
-/// The nanoseconds of keeping the blocks at these places, or the largest number where they do not
+/// The nanoseconds of keeping the blocks at these places, or the largest number if they do not
 /// rise.
 pub fn time_keep<S: Segment>(
     rt: &HostRuntime,
@@ -188,7 +187,7 @@ pub fn lay_out<S: Segment>(
     Ok(keep_rising(sma, seg, places.as_slice()))
 }
 
-/// Every so many places of a list, from the first on.
+/// Every `step`-th place of a list, from the first on.
 pub fn every_so_many(alloc: Global, places: &[u32], step: usize) -> Result<Vec<u32>, AllocError>
     requires { 1 ≤ step }
     ensures { IfOk result (λ some. (blocks : List Extent) → AreLive blocks places.now

@@ -1,4 +1,4 @@
-//! Taking and giving as it is without a chain and an index: by a walk over all blocks and gaps.
+//! Taking and freeing without a chain and an index: by a walk over all blocks and gaps.
 
 ghost use Rattle.std.specs.Prelude.{◌≡◌, ◌<◌, ◌≤◌, ◌^◌, length};
 
@@ -42,7 +42,7 @@ fn put(words: &mut VecWords, i: u64, w: u64)
     }
 }
 
-// Makes one gap of the block at `at` and the gaps beside it.
+// Makes one gap of the block at `at` and the gaps next to it.
 fn give(words: &mut VecWords, from: u32, at: u64)
     ensures { length words.new.items.items ≡ length words.old.items.items }
 {
@@ -69,7 +69,7 @@ fn give(words: &mut VecWords, from: u32, at: u64)
     }
 }
 
-// Takes `n` words at the first gap that has as many, and says where.
+// Takes `n` words at the first gap that has as many, and returns their place.
 fn take(words: &mut VecWords, from: u32, n: u64) -> Option<u32>
     requires { n < 2 ^ 32 }
     ensures { length words.new.items.items ≡ length words.old.items.items }
@@ -107,7 +107,7 @@ pub fn time_walk(
     Ok(best / u64::from(PAIRS))
 }
 
-// Gives a block and takes one of its size, so many times, each by a walk.
+// Frees a block and takes one of its size, this many times, each by a walk.
 fn pairs_by_walk(
     words: &mut VecWords,
     from: u32,
