@@ -38,7 +38,7 @@ STOP = [
 ]
 STOP = [(re.compile(word, re.IGNORECASE if word[0] == "\\" else 0), better) for word, better in STOP]
 
-LINE_COMMENT = {".rt": "//", ".c": "//", ".h": "//", ".php": "//", ".sh": "#", ".py": "#"}
+LINE_COMMENT = {".rt": "//", ".antt": "--", ".c": "//", ".h": "//", ".php": "//", ".sh": "#", ".py": "#"}
 MESSAGE = re.compile(r"\b(?:echo|printf|say|tell|fprintf|php_error_docref|php_log_err|zend_throw\w*|print|fwrite|die|exit)\b(.*)")
 STRING = re.compile(r"\"((?:[^\"\\]|\\.)*)\"|'((?:[^'\\]|\\.)*)'")
 # Words of code, not of prose: what stands between backquotes.
@@ -103,6 +103,9 @@ def hits(path, kind):
     for number, text in prose(path, kind):
         for word, better in STOP:
             for found in word.finditer(text):
+                # The definitions have it as their own word, which the glossary explains: a load of that word returns it.
+                if kind == ".antt" and found[0] == "told":
+                    continue
                 yield number, found[0].strip(" .;:"), better
 
 
