@@ -1,21 +1,22 @@
 /* SPDX-License-Identifier: MIT */
 /* The proved cache as a library for C.
  *
- * One call at a time: the caller holds a lock round each call, and the calls of all processes are
- * ordered by it. A handle is memory in which cache_new made a cache, and nothing else: no caller
+ * One call at a time: the caller holds a lock around each call, and the lock orders the calls of
+ * all processes. A handle is memory in which cache_new made a cache, and nothing else: no caller
  * reads, writes or moves it.
  *
- * A pointer is null, or points to as many bytes or places as the length beside it says. What a call
- * only reads may lie anywhere. What it writes lies in no other argument, and in no memory of the
- * cache; it may be new memory, since whatever lies there counts as its old bytes.
+ * A pointer is null, or points to as many bytes or places as the length next to it says. Input may
+ * be in any memory. Output must not overlap other arguments or memory of the cache; it may be
+ * uninitialised, since whatever it contains counts as its old bytes.
  *
- * No other input is undefined: each request, kind, place, slot and number has an answer. So has a
- * null, and a length of 2^63 bytes or more. A null to no bytes is taken as no bytes.
+ * No other input is undefined: each request, kind, place, slot and number has an answer, and so
+ * have a null pointer and a length of 2^63 bytes or more. A null pointer with length 0 is taken as
+ * no bytes.
  *
  * The exports of the library are cache_size and the functions whose names end in _unchecked. They
- * are proved for calls that come one at a time, with the handle that cache_new made, with no null
- * and aligned pointers, with slices of less than 2^63 bytes, and with what is written apart from
- * all else. The functions that test pointers and lengths first are C of this header: they are
+ * are proved for calls that come one at a time, with the handle that cache_new made, with aligned
+ * pointers that are not null, with slices of less than 2^63 bytes, and with output that overlaps
+ * nothing else. The functions that check pointers and lengths first are C of this header: they are
  * tested, and not proved. */
 #ifndef CACHE_C_H
 #define CACHE_C_H
@@ -28,62 +29,63 @@
 extern "C" {
 #endif
 
-/* The version of this header and of the engine with it, major.minor.patch; major changes if a program must be changed. */
+/* The version of this header and of the engine with it, major.minor.patch; major changes if a
+ * program must be changed. */
 #define CACHE_C_VERSION "1.0.0"
 
 /* CACHE_C_VERSION of the shared_cache.c that the program is linked with, which defines this. */
 const char *cache_c_version(void);
 
-/* The library asks for memory by four functions, which its user defines. */
+/* The library allocates memory by four functions, which its user defines. */
 
-/* Memory, or that there is none. `at` is not null, also where there is none. */
+/* Memory, or a failure. `at` is not null, even if there is no memory. */
 typedef struct cache_tried {
     bool ok;
     void *at;
 } cache_tried;
 
-/* So many bytes, aligned as `align`, which is at most 16. What is asked for while cache_new runs
- * stays for as long as the cache, and each process has it at the same address, as the handle. What
- * another call asks for it gives back before it ends. */
+/* Memory of `size` bytes, aligned to `align`, which is at most 16. What is allocated while
+ * cache_new runs lives as long as the cache, and each process has it at the same address, as the
+ * handle. What another call allocates it frees before it returns. */
 cache_tried rattle_alloc(size_t size, size_t align);
 
-/* Memory of `size` bytes in place of that at `at`, whose first `kept` bytes go along. Where there
- * is none, that at `at` stays. */
+/* Memory of `size` bytes instead of that at `at`, whose first `kept` bytes are copied. If there
+ * is none, that at `at` is unchanged. */
 cache_tried rattle_realloc(void *at, size_t kept, size_t size, size_t align);
 
-/* The memory at `at` isn't asked for any longer. */
+/* Frees the memory at `at`. */
 void rattle_dealloc(void *at);
 
-/* The number of the system's last error. The cache never asks for it. */
+/* The number of the system's last error. The cache never calls it. */
 int rattle_errno(void);
 
-/* A shape: all words (8 bytes each) of the segments, how many of them are slots, after how many
- * seconds an unused row is stale (0: never), and how many segments there are.
+/* A shape: all words (8 bytes each) of the segments, the number of slots among them, after how many
+ * seconds an unused row is stale (0: never), and the number of segments.
  *
  * Usable are 1 to 64 segments; 32 to 268,435,456 words, a multiple of twice the segments; an even
  * number of slots from 2 to 1,048,576, with 16 words or more left in the first segment
- * (slots + 16 <= words / segments); and each number of seconds. */
+ * (slots + 16 <= words / segments); and any number of seconds. */
 typedef struct {
     uint32_t words, slots, ttl, segments;
 } cache_shape;
 
 enum {
-    CACHE_MADE,      /* there is an empty cache */
-    CACHE_BAD_SHAPE, /* no cache has this shape: there is none */
-    CACHE_NO_ROOM,   /* memory is missing: there is none */
-    CACHE_NO_POINTER /* a pointer is null: there is none */
+    CACHE_MADE,      /* an empty cache was made */
+    CACHE_BAD_SHAPE, /* no cache has this shape: none was made */
+    CACHE_NO_ROOM,   /* out of memory: none was made */
+    CACHE_NO_POINTER /* a pointer is null: none was made */
 };
 
-/* How many bytes a handle takes, aligned as 16. */
+/* The number of bytes of a handle, which is aligned to 16. */
 size_t cache_size(void);
 
 /* Makes an empty cache of this shape in the memory at `at`, which then is its handle. Any other
  * number than CACHE_MADE says why there is none.
  *
- * It asks rattle_alloc for 8 bytes a word, and for an index of about 1.1 bytes a word. */
+ * It calls rattle_alloc for 8 bytes a word, and for an index of about 1.1 bytes a word. */
 static inline uint32_t cache_new(const cache_shape *shape, uint8_t *at);
 
-/* What is asked. Each is one event of the cache. */
+/* Requests. Each is one event of the cache. */
 enum cache_event {
     CACHE_STORE,  /* apcu_store: key, value, ttl */
     CACHE_ADD,    /* apcu_add: the same, but never over a live row */
@@ -93,59 +95,60 @@ enum cache_event {
     CACHE_COUNT,  /* apcu_inc: key, number is the step, ttl of a new row */
     CACHE_SWAP,   /* apcu_cas: key, number is expected, set is set */
     CACHE_CLEAR,  /* apcu_clear_cache */
-    CACHE_HOLD    /* apcu_fetch: key; number is a seat, set is from how many bytes on it is taken */
+    CACHE_HOLD    /* apcu_fetch: key; number is a seat, set the least length to take it for */
 };
 
 /* Kinds of values; an answer has them too. */
 enum { CACHE_NULL, CACHE_BOOL, CACHE_INT, CACHE_STR };
 
 typedef struct {
-    uint32_t kind;   /* which request */
-    uint32_t value;  /* which kind of value is stored */
+    uint32_t kind;   /* the request */
+    uint32_t value;  /* the kind of the value that is stored */
     uint32_t ttl;    /* seconds; 0: no limit */
     uint64_t t;      /* the second of the call, below */
-    uint64_t number; /* an integer's 64 bits, or a truth value; a seat */
-    uint64_t set;    /* an integer's 64 bits; a count of bytes */
+    uint64_t number; /* an integer's 64 bits, or a boolean; a seat */
+    uint64_t set;    /* an integer's 64 bits; a number of bytes */
     uint64_t hash;   /* the key's, for cache_ask_hashed; cache_ask computes it */
 } cache_request;
 
-/* The hash of a key: 5381, for each byte times 33 plus the byte, and the highest bit set. PHP's hash
- * of a string (zend_string_hash_val) is the same if all its bytes are ASCII; of other bytes PHP adds
- * negative numbers where char has a sign. It is 0 if the pointer is null or the key has 4 GB or more. */
+/* The hash of a key: 5381, for each byte times 33 plus the byte, and the highest bit set. PHP's
+ * hash of a string (zend_string_hash_val) is the same if all its bytes are ASCII; of other bytes
+ * PHP adds negative numbers where char has a sign. It is 0 if the pointer is null or the key has 4
+ * GB or more. */
 static inline uint64_t cache_hash(const uint8_t *key, size_t key_len);
 
 /* The second `t` is of a clock that all callers share; the library has none. A row expires by the
  * seconds from its creation, or its last use, to `t`. The clock may go back: a row that was created
  * or used after `t` has not expired. */
 
-/* The answers that are no values. A store is not done (CACHE_NO) where the value can never fit,
- * which changes nothing; where all rows that can be dropped were, and there is still no gap of that
- * size; and, for CACHE_ADD, where the key has a live row. */
+/* The answers that are no values. A store is not done (CACHE_NO) if the value can never fit,
+ * which changes nothing; if all rows that can be dropped were, and there is still no gap of that
+ * size; and, for CACHE_ADD, if the key has a live row. */
 enum {
     CACHE_OTHER = 4, /* a value of another kind */
     CACHE_ABSENT,    /* no live row has the key */
-    CACHE_NO,        /* it was not done, or it is not so */
-    CACHE_YES,       /* it was done, or it is so */
+    CACHE_NO,        /* it was not done, or it is false */
+    CACHE_YES,       /* it was done, or it is true */
     CACHE_NO_NUMBER, /* nothing was counted */
-    CACHE_BAD,       /* no such request or value, or a null: nothing was asked */
-    CACHE_TOO_LONG   /* a key or a string of 4 GB or more: nothing was asked */
+    CACHE_BAD,       /* no such request or value, or a null pointer: there was no event */
+    CACHE_TOO_LONG   /* a key or a string of 4 GB or more: there was no event */
 };
 
 typedef struct {
     uint32_t kind;  /* a kind of value, or an answer above */
     uint32_t place; /* of the bytes of a string */
-    int64_t number; /* an integer, or a truth value */
-    uint64_t len;   /* how many bytes a string has */
+    int64_t number; /* an integer, or a boolean */
+    uint64_t len;   /* the number of bytes of a string */
 } cache_answer;
 
-/* Asks the cache for one event. The place of a string's bytes is good until the next event.
+/* Carries out one event of the cache. The place of a string's bytes is valid until the next event.
  *
- * Of a string that CACHE_HOLD answers, of `set` bytes or more, the seat `number` holds the row from
- * then on, and what it held before no longer. A CACHE_HOLD that answers anything else leaves the
- * seat as it was. The bytes of a held row stay where they are, and no call writes there, whatever is
- * stored, deleted or cleared: the words from `place` on may be read with no lock, until the seat is
- * released or taken again. The row's block is not allocated again before that. So a store that needs
- * its room may evict more rows, or answer CACHE_NO; it never waits. */
+ * If CACHE_HOLD answers a string of `set` bytes or more, the seat `number` holds its row from then
+ * on, and no longer what it held before. If it answers anything else, the seat is unchanged. The
+ * bytes of a held row are not moved or written, whatever is stored, deleted or cleared: the words
+ * from `place` on may be read without a lock, until the seat is released or taken again. The row's
+ * block is not allocated again before that. So a store that needs its room may evict more rows, or
+ * answer CACHE_NO; it never waits. */
 static inline cache_answer cache_ask(uint8_t *at, const cache_request *ask, const uint8_t *key,
                                      size_t key_len, const uint8_t *bytes, size_t bytes_len);
 
@@ -155,66 +158,67 @@ static inline cache_answer cache_ask_hashed(uint8_t *at, const cache_request *as
                                             const uint8_t *key, size_t key_len,
                                             const uint8_t *bytes, size_t bytes_len);
 
-/* How many seats there are, from 0 on. */
+/* The number of seats, from 0 on. */
 enum { CACHE_SEATS = 64 };
 
-/* Releases the seat: it holds nothing from now on. False if there is none of this number, or at a
- * null. It is no event. */
+/* Releases the seat: it holds nothing from now on. False if there is none of this number, or if the
+ * pointer is null. It is no event. */
 static inline bool cache_let_go(uint8_t *at, uint32_t seat);
 
-/* Fills the memory with the bytes from this place on; false where there are not so many words, or a
- * pointer is null. */
+/* Copies `len` bytes from the word at `place` on into `out`. Returns false, and copies nothing, if
+ * they would run past the last word, or a pointer is null. */
 static inline bool cache_copy(uint8_t *at, uint32_t place, uint8_t *out, size_t len);
 
-/* What is told from here on changes nothing, and is no event. */
+/* The calls from here on change nothing, and are no events. */
 
 typedef struct {
     uint64_t hits, misses;        /* fetches that found a row, or none, since the last expunge */
     uint64_t inserts;             /* rows that were stored, since then */
     uint64_t expunges;            /* expunges since the cache was cleared */
-    uint64_t entries;             /* rows, expired ones too */
+    uint64_t entries;             /* rows, expired ones included */
     uint64_t row_words, free_words; /* of the rows' blocks, and of the gaps */
 } cache_counts;
 
-/* An expunge drops all rows, since no gap was large enough for a new one, not even after the expired
- * rows were dropped. After it hits, misses and inserts count from 0. All counts are 0 at a null. */
+/* An expunge drops all rows, because no gap was large enough for a new one, not even after the
+ * expired rows were dropped. After it hits, misses and inserts count from 0. All counts are 0 if
+ * the pointer is null. */
 static inline cache_counts cache_get_counts(uint8_t *at);
 
 /* A row. Moments are in seconds; sizes and places in words. */
 typedef struct {
     uint32_t place;     /* of its block; 0: there is no row */
-    uint32_t slot;      /* the list that it stands in */
-    uint32_t key_place; /* of the bytes of its key, for cache_copy; good until the next event */
-    uint32_t key_len;   /* how many bytes that are */
+    uint32_t slot;      /* its list */
+    uint32_t key_place; /* of the bytes of its key, for cache_copy; valid until the next event */
+    uint32_t key_len;   /* the number of these bytes */
     uint32_t ttl;       /* seconds; 0: none of its own */
     uint32_t size;      /* of its block */
     uint64_t ctime;     /* created */
-    uint64_t mtime;     /* changed last */
-    uint64_t atime;     /* used last */
-    uint64_t dtime;     /* dropped, for a removed row; else 0 */
-    uint64_t hits;      /* how often it was fetched */
+    uint64_t mtime;     /* last changed */
+    uint64_t atime;     /* last used */
+    uint64_t dtime;     /* dropped, for a removed row; otherwise 0 */
+    uint64_t hits;      /* the number of its fetches */
     cache_answer value; /* as a look-up answers it */
 } cache_row;
 
-/* The row that a look-up of the key at the moment t finds; it counts nothing. There is none where a
+/* The row that a look-up of the key at the moment t finds; it counts nothing. There is none if a
  * pointer is null. */
 static inline cache_row cache_find_row(uint8_t *at, const uint8_t *key, size_t key_len,
                                        uint64_t t);
 
-/* The rows of a slot, expired ones too, in their order and after the first `skip`: how many were
- * written, at most `room`, and 0 where a pointer is null. The slots are 0 to shape.slots - 1;
- * shape.slots are the removed rows, and a larger number has none. */
+/* The rows of a slot, expired ones included, in their order and after the first `skip`. Returns how
+ * many were written, at most `room`, and 0 if a pointer is null. The slots are 0 to shape.slots -
+ * 1; shape.slots are the removed rows, and a larger number has none. */
 static inline uint64_t cache_list_rows(uint8_t *at, uint32_t slot, uint64_t skip, cache_row *out,
                                        size_t room);
 
-/* How far a listing of several lists came. */
+/* How far a listing of several lists got. */
 struct cache_listing {
     uint32_t next;  /* the first list that was not written; `to` if all were */
     uint64_t count; /* the number of rows that were written, those of the lists before it */
 };
 
 /* The rows of the lists from `from` up to `to`, list after list, each as cache_list_rows writes it,
- * until all rows of one do not fit. The places behind the rows that were counted may have changed.
+ * until all rows of one do not fit. The places after the rows that were counted may have changed.
  * If a pointer is null, nothing is written: next is `from`, and count is 0. */
 static inline void cache_list_slots(uint8_t *at, uint32_t from, uint32_t to, cache_row *out,
                                     size_t room, struct cache_listing *listing);
@@ -224,23 +228,24 @@ typedef struct {
     uint32_t place, size;
 } cache_gap;
 
-/* The gaps at or past a place, by rising place: how many were written, at most `room`, and 0 where a
- * pointer is null. */
+/* The gaps at or after a place, by rising place. Returns how many were written, at most `room`, and
+ * 0 if a pointer is null. */
 static inline uint64_t cache_list_gaps(uint8_t *at, uint32_t from, cache_gap *out, size_t room);
 
 /* Look-ups by any number of callers at once.
  *
- * cache_find_shared answers a fetch and writes nothing, so its callers need not exclude one another.
- * They and any call that may change the cache do. What it answers is counted later, by cache_count,
- * before any other call: then the cache is the one that the fetches leave, in any order. */
+ * cache_find_shared answers a fetch and writes nothing, so its callers need not exclude one
+ * another, but they must exclude any call that may change the cache. What it answers is counted
+ * later, by cache_count, before any other call: then the cache is the one that the fetches leave,
+ * in any order. */
 
-/* What a look-up needs to know beside the words. It is good until the next call that may change the
- * cache. */
+/* What a look-up needs to know besides the words. It is valid until the next call that may change
+ * the cache. */
 struct cache_view {
-    uint32_t slots, rows, len; /* how many slots, rows and words there are */
+    uint32_t slots, rows, len; /* the numbers of slots, rows and words */
 };
 
-/* What a shared look-up answers. */
+/* The answer of a shared look-up. */
 struct cache_found {
     uint32_t kind;  /* these four are those of a cache_answer */
     uint32_t place;
@@ -253,10 +258,12 @@ struct cache_found {
 static inline void cache_get_view(uint8_t *at, struct cache_view *view);
 
 /* What CACHE_LOOK would answer at the second t. `words` is the memory of 8 * shape.words bytes that
- * cache_new asked for, of which the first `written` words are given; the others are taken as 0. All
- * view->len of them may be given if that memory was 0 when cache_new got it. `hash` is the key's.
+ * cache_new allocated, of which the first `written` words are passed; the others are taken as 0.
+ * All view->len of them may be passed if that memory was 0 when cache_new got it. `hash` is the
+ * key's.
  *
- * CACHE_BAD if a pointer is null, the view is of no cache, or more words are given than there are. */
+ * CACHE_BAD if a pointer is null, the view is of no cache, or more words are passed than there
+ * are. */
 static inline void cache_find_shared(const struct cache_view *view, const uint64_t *words,
                                      size_t written, const uint8_t *key, size_t key_len,
                                      uint64_t hash, uint64_t t, struct cache_found *found);
@@ -266,7 +273,7 @@ static inline void cache_find_shared(const struct cache_view *view, const uint64
 static inline bool cache_count(uint8_t *at, const uint32_t *rows, size_t count, uint64_t misses,
                                uint64_t t);
 
-/* The exports: each is the call above whose name it begins with, but looks for nothing first. */
+/* The exports: each is the call above whose name it begins with, but checks nothing first. */
 
 uint32_t cache_new_unchecked(const cache_shape *shape, uint8_t *at);
 uint64_t cache_hash_unchecked(const uint8_t *key, size_t key_len);
@@ -290,7 +297,7 @@ struct cache_found cache_find_shared_unchecked(const struct cache_view *view,
 bool cache_count_unchecked(uint8_t *at, const uint32_t *rows, size_t count, uint64_t misses,
                            uint64_t t);
 
-/* What looks first. */
+/* The functions that check their arguments first. */
 
 static inline uint32_t cache_new(const cache_shape *shape, uint8_t *at) {
     if (!shape || !at)

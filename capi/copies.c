@@ -2,8 +2,9 @@
 /* Copies outside of the lock. A process holds a large text and reads it without the lock, while
  * others delete it, store over it, clear the cache and fill it: each byte is the old one. Then a
  * process is killed while it copies, and so are as many as there are seats, with no process waiting
- * for them: the next call that wants room gets that of their rows. And one copies while another
- * process dies inside a call, so that the cache is emptied: then the copy doesn't count. At last processes store, fetch and are killed at random moments.
+ * for them: the next call that needs room gets that of their rows. And one copies while another
+ * process dies inside a call, so that the cache is emptied: then the copy does not count. In the
+ * end processes store, fetch and are killed at random moments.
  * Usage: copies [KILLS] */
 #define _GNU_SOURCE
 #include "shared_cache.h"
@@ -106,7 +107,7 @@ static void fill(void) {
     }
 }
 
-/* Whatever others do, what is held stays; and once it is let go its room is free again. */
+/* Whatever others do, what is held stays; and after its release its room is free again. */
 static void stays(void (*work)(void)) {
     size_t len = 70000;
     shared_text held;
@@ -220,7 +221,7 @@ static void of_another_cache(void) {
     WANT(!shared_let_go(&held));
 }
 
-/* Without room for all of it beside what is held a store answers no, and nobody waits. */
+/* If there is no room for all of it besides what is held, a store answers no, and no process waits. */
 static void of_no_room(void) {
     shared_text held;
     size_t half = sizeof(uint64_t) * shape.words / 3 * 2;

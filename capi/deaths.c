@@ -1,11 +1,11 @@
 /* SPDX-License-Identifier: MIT */
 /* Deaths one by one. A child enters, stores over a row and leaves; its parent steps it, and kills it
- * behind its first instruction, behind its second, and so on: at each where the lock is taken and
- * given back, and at some of the call. Then the parent enters, and finds the old text or the new
- * one whole, or an empty cache that was made anew. Then the same of a child that makes the cache
- * anew, since another one died inside a call, and of one that copies a long text outside of the
- * lock: at the end no row is kept for the dead.
- * Usage: deaths. Ends with status 77 where processes may not be stepped. */
+ * after its first instruction, after its second, and so on: at each where the lock is taken and
+ * released, and at some of the call. Then the parent enters, and finds all of the old text or of the
+ * new one, or an empty cache that was recreated. Then the same for a child that recreates the cache
+ * because another one died inside a call, and for one that copies a long text outside of the
+ * lock: at the end no row is kept for a dead process.
+ * Usage: deaths. Ends with status 77 if processes may not be stepped. */
 #define _GNU_SOURCE
 #include "shared_cache.h"
 
@@ -65,7 +65,7 @@ static void copy_long(void) {
     }
 }
 
-/* Whether the row is gone once it is deleted, though processes died while they copied from it. */
+/* Whether the row's block is free after it is deleted, though processes died while they copied it. */
 static bool is_let_go(void) {
     cache_row row;
     uint8_t *at = shared_enter();
@@ -87,7 +87,7 @@ static void die_inside(void) {
     raise(SIGKILL);
 }
 
-/* Lets a child do this, and kills it behind so many instructions; -1 is never. How many it did. */
+/* Lets a child do this, and kills it after `steps` instructions; -1 is never. How many it did. */
 static long step(void (*work)(void), long most) {
     int status;
     pid_t child = fork();
@@ -121,14 +121,14 @@ static void kill_inside(void) {
     waitpid(child, NULL, 0);
 }
 
-/* The instructions at which a child is killed: all of its first and last hundreds, where the lock
- * is taken and given back, and some between. */
+/* The instructions at which a child is killed: all of its first and last hundreds, at which the lock
+ * is taken and released, and some between. */
 static long following(long at, long all) {
     enum { EACH = 120, BETWEEN = 47 };
     return at < EACH || at >= all - EACH ? at + 1 : at + BETWEEN;
 }
 
-/* How often there was the old text, the new one, an empty cache, and what must not be. */
+/* How often there was the old text, the new one, an empty cache, and a wrong state. */
 struct found {
     unsigned old, new, empty, wrong;
 };
@@ -189,7 +189,7 @@ int main(void) {
     struct found stored = find_all(store_over, false);
     tell("a store", stored);
     struct found made = find_all(enter_only, true);
-    tell("making anew", made);
+    tell("recreating it", made);
     struct found copied = find_all(copy_long, false);
     copied.wrong += !is_let_go();
     tell("a copy", copied);

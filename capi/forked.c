@@ -1,7 +1,7 @@
 /* SPDX-License-Identifier: MIT */
 /* Eight processes share a cache. First they count together. Then each stores and fetches texts,
- * and one after another is killed at a random moment; where one died inside a call, the next
- * process that enters makes the cache anew. Prints what was found.
+ * and one after another is killed at a random moment; if one died inside a call, the next
+ * process that enters recreates the cache. Prints what was found.
  * Usage: forked [COUNTS-OF-EACH [KILLS]] */
 #define _GNU_SOURCE
 #include "shared_cache.h"
@@ -22,7 +22,7 @@ static void stop(const char *why) {
     exit(1);
 }
 
-/* One event of the cache, and the bytes of a string that it answers. The bytes stand in the words
+/* One event of the cache, and the bytes of a string that it answers. The bytes are in the words
  * until the next event, so they are copied before another process can enter. */
 static cache_answer ask(cache_request request, const char *key, const char *text, size_t len,
                         char *out) {
@@ -66,7 +66,7 @@ static bool is_whole(const char *text, size_t len) {
     return true;
 }
 
-/* Stores and fetches without end; it ends where a text is torn, or a call is answered oddly. */
+/* Stores and fetches without end; it ends if a text is torn, or an answer is unexpected. */
 static int store_and_fetch(unsigned seed) {
     static char text[LONGEST];
     for (;;) {
@@ -84,7 +84,7 @@ static int store_and_fetch(unsigned seed) {
     }
 }
 
-/* Kills so many children, and says how many had ended before, which none does by itself. */
+/* Kills this many children, and returns how many had ended before, which none does by itself. */
 static unsigned kill_children(unsigned kills) {
     pid_t child[CHILDREN];
     unsigned seed = 1, ended = 0;
@@ -130,8 +130,8 @@ int main(int argc, char **argv) {
     shared_enter();
     shared_deaths deaths = shared_get_deaths();
     shared_leave();
-    printf("%u kills: %llu under the lock outside a call, %llu inside, each of which made the "
-           "cache anew\n%u children read a torn text or another answer\n",
+    printf("%u kills: %llu under the lock outside a call, %llu inside, each of which recreated "
+           "the cache\n%u children read a torn text or another answer\n",
            kills, (unsigned long long)deaths.outside, (unsigned long long)deaths.inside, torn);
     bool is_good = all_counted && torn == 0 && last.kind == CACHE_YES;
     puts(is_good ? "as it should be" : "not as it should be");

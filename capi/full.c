@@ -1,6 +1,6 @@
 /* SPDX-License-Identifier: MIT */
-/* A cache of so many words is filled to the last gap, and all of it is read back.
- * Usage: full WORDS. Ends with status 77 where the library takes no shape of so many words. */
+/* A cache of WORDS words is filled to the last gap, and all of it is read again.
+ * Usage: full WORDS. Ends with status 77 if the library supports no shape of this many words. */
 #define _GNU_SOURCE
 #include "shared_cache.h"
 
@@ -8,7 +8,7 @@
 #include <stdlib.h>
 #include <string.h>
 
-enum { NO_SHAPE = 77, LONGEST = 1 << 20, ROW = 64 /* words of a row beside its text, or fewer */ };
+enum { NO_SHAPE = 77, LONGEST = 1 << 20, ROW = 64 /* words of a row besides its text, or fewer */ };
 
 static uint8_t *at;
 
@@ -19,7 +19,7 @@ static cache_answer ask(cache_request request, unsigned number, const uint8_t *t
     return cache_ask(at, &request, (const uint8_t *)key, key_len, text, len);
 }
 
-/* The text of a number, of which each eight bytes are others. */
+/* The text of a number, in which no two groups of eight bytes are equal. */
 static void write_text(uint64_t *text, size_t len, unsigned number) {
     for (size_t i = 0; i < (len + 7) / 8; i++)
         text[i] = ((uint64_t)number << 32 | i) * 0x9E3779B97F4A7C15u;
@@ -52,7 +52,7 @@ int main(int argc, char **argv) {
         after[i] = number;
     }
     cache_counts counts = cache_get_counts(at);
-    printf("%llu words, of which %llu are free behind %u texts\n", (unsigned long long)shape.words,
+    printf("%llu words, of which %llu are free after %u texts\n", (unsigned long long)shape.words,
            (unsigned long long)counts.free_words, number);
     is_good = is_good && counts.entries == number && counts.expunges == 0;
 

@@ -1,11 +1,11 @@
 /* SPDX-License-Identifier: MIT */
-/* Deaths in lanes. A child is stepped, and killed behind its first instruction, its second, and so
+/* Deaths in lanes. A child is stepped, and killed after its first instruction, its second, and so
  * on:
  * - a reader, from before it takes its lane until it has released it, while a writer waits for it;
  * - a writer that waits for a reader's lane, and one that was woken;
  * - a process that fetches from a cache, and one that counts what others have fetched.
- * Each time another writer has to get the lock in three seconds, and what was noted has to be there
- * whole. Of the cache no row may be missing. Usage: lanes. It ends with status 77 if processes may
+ * Each time another writer has to get the lock within three seconds, and all notes have to be
+ * there. No row of the cache may be missing. Usage: lanes. It ends with status 77 if processes may
  * not be stepped. */
 #define _GNU_SOURCE
 /* Each look is stepped through. */
@@ -62,7 +62,7 @@ static void write_once(void) {
     robust_lock_give(&both->lock);
 }
 
-/* It ends with what the lock said. */
+/* It ends with the result of taking the lock. */
 static void write_and_exit(void) {
     int taken = robust_lock_take(&both->lock);
     lanes_wait(&both->lanes);
@@ -136,7 +136,7 @@ static void let_sleep(pid_t process) {
     }
 }
 
-/* What a step came to: it was made, the child ended, or it sleeps within the step. */
+/* The result of a step: it was made, the child ended, or it sleeps within the step. */
 enum { STEPPED, ENDED, SLEEPS };
 
 static int step(pid_t child, long steps) {
@@ -167,7 +167,7 @@ struct found {
     unsigned given, left, stuck, wrong;
 };
 
-/* What comes of a writer in three seconds. */
+/* The result of a writer, within three seconds. */
 static void find(struct found *found, pid_t writer) {
     for (int i = 0; i < 3000; i++) {
         int status;
@@ -195,7 +195,7 @@ static unsigned count_notes(struct found *found) {
     return uses;
 }
 
-/* A reader's death behind its first `steps` instructions, while a writer waits; false if the reader
+/* A reader's death after its first `steps` instructions, while a writer waits; false if the reader
  * ended before. */
 static bool die_reading(long steps, struct found *found) {
     lanes_forget(&both->lanes);
@@ -246,7 +246,7 @@ static bool die_woken(long steps, struct found *found) {
     return is_death;
 }
 
-/* Of the cache: how many processes died in a call, and the hits of all its rows; every row has to
+/* How many processes died in a call of the cache, and the hits of all its rows; every row has to
  * be there. */
 static uint64_t look_at_rows(struct found *found, uint64_t *inside) {
     uint64_t hits = 0;
@@ -299,7 +299,7 @@ static bool die_counting(long steps, struct found *found) {
     return is_death;
 }
 
-/* A death behind each step. The last child of all ended before. */
+/* A death after each step. The last child of all ended before. */
 static bool find_all(const char *of, bool (*die)(long, struct found *)) {
     struct found found = {0};
     long steps = 0;

@@ -9,9 +9,9 @@
  * - no process reads while another one changes what it reads;
  * - each use that was noted waits, was counted once in its own second, or was lost with the cache
  * or with a process that died while it counted;
- * - all processes that live can come to their end, whatever happened before.
+ * - all processes that live can reach their end, whatever happened before.
  *
- * With a number of a fault the model leaves out one of the rules, and has to find what comes of it.
+ * With a number of a fault the model leaves out one of the rules, and has to find the consequence.
  * Usage: lanes_model [FAULT]. It prints how many states there are; 1 is its status if one is wrong.
  */
 #include <stdbool.h>
@@ -25,7 +25,7 @@ enum { LANES = 2, USES = 2, PROCESSES = 3, WRITER = 2, CALLS = 2 };
 /* Words: 0 is free, 1 to PROCESSES is a process that has it. */
 enum { DIED = PROCESSES + 1 };
 
-/* What a call that is under way does: it counts the uses of the lane BUSY_COUNT + i. */
+/* What a call in progress does: it counts the uses of the lane BUSY_COUNT + i. */
 enum { BUSY_NOT, BUSY_CHANGE, BUSY_COUNT };
 
 /* What a process has in list_op_pending: nothing, the lock, or the lane PENDING_LANE + i. */

@@ -1,10 +1,11 @@
 /* SPDX-License-Identifier: MIT */
-/* Deaths at a lock and at a mark. A child is stepped, and killed behind its first instruction, its second, and so
- * on, while it takes a free lock, while it gives one back for which another one sleeps, and when it
- * was woken: where the lock is free, and where somebody has taken it meanwhile. Each time another
- * one that waits has to get the lock in three seconds. The lock is a short one, and then a long one.
- * The same while it takes a mark under the lock and releases it later: the next one finds no owner.
- * Usage: locks. Ends with status 77 where processes may not be stepped. */
+/* Deaths at a lock and at a mark. A child is stepped, and killed after its first instruction, its
+ * second, and so on, while it takes a free lock, while it releases one for which another one sleeps,
+ * and after it was woken: if the lock is free, and if another process has taken it meanwhile. Each
+ * time another one that waits has to get the lock within three seconds. The lock is a short one, and
+ * then a long one. The same while it takes a mark under the lock and releases it later: the next one
+ * finds no owner.
+ * Usage: locks. Ends with status 77 if processes may not be stepped. */
 #define _GNU_SOURCE
 /* Each look is stepped through. */
 #define ROBUST_LOCK_LOOKS 2
@@ -69,7 +70,7 @@ static void take_and_look(void) {
     _exit(is_owned ? 1 : taken);
 }
 
-/* It ends with what it was told. */
+/* It ends with the result. */
 static void take_and_give(void) {
     int taken = robust_lock_take(lock);
     robust_lock_give(lock);
@@ -116,7 +117,7 @@ static void let_sleep(pid_t process) {
         usleep(100);
 }
 
-/* What a step came to: it was made, the child ended, or it sleeps within the step. */
+/* The result of a step: it was made, the child ended, or it sleeps within the step. */
 enum { STEPPED, ENDED, SLEEPS };
 
 static int wait_for_step(pid_t child, bool may_sleep) {
@@ -130,7 +131,7 @@ static int wait_for_step(pid_t child, bool may_sleep) {
     }
 }
 
-/* So many steps, or fewer, where the child does not make one of them. */
+/* This many steps, or fewer if the child ends or sleeps before. */
 static int step(pid_t child, long steps, bool may_sleep) {
     int came = STEPPED;
     for (long i = 0; i < steps && came == STEPPED; i++) {
@@ -145,12 +146,12 @@ static void end(pid_t child) {
     waitpid(child, NULL, 0);
 }
 
-/* How often one that waited was told that the lock was given, that its owner died, or nothing. */
+/* How often one that waited got the lock, learned that its owner died, or got no result. */
 struct found {
     unsigned given, left, stuck;
 };
 
-/* What a process that takes the lock was told, in three seconds. */
+/* The result of a process that takes the lock, within three seconds. */
 static void find(struct found *found, pid_t waiter) {
     for (int i = 0; i < 3000; i++) {
         int status;
@@ -169,7 +170,7 @@ static void find(struct found *found, pid_t waiter) {
     found->stuck++;
 }
 
-/* A death in taking a free lock, behind so many steps; false where it ended before. */
+/* A death in taking a free lock, after this many steps; false if it ended before. */
 static bool die_taking(long steps, struct found *found) {
     pid_t child = begin_stepped(take_only);
     bool is_death = step(child, steps, false) == STEPPED;
@@ -189,7 +190,7 @@ static bool die_marking(long steps, struct found *found) {
     return is_death;
 }
 
-/* In giving it back, while another one sleeps for it. */
+/* In releasing it, while another one sleeps for it. */
 static bool die_giving(long steps, struct found *found) {
     pid_t child = begin_stepped(give_only), waiter = begin(take_and_give, false);
     let_sleep(waiter);
@@ -200,8 +201,8 @@ static bool die_giving(long steps, struct found *found) {
     return is_death;
 }
 
-/* When it was woken, before another one that sleeps. Where somebody takes the lock meanwhile, it
- * sleeps again, and dies so. */
+/* When it was woken, before another one that sleeps. If a process takes the lock meanwhile, it
+ * sleeps again, and dies then. */
 static bool die_woken(long steps, struct found *found, bool is_taken) {
     robust_lock_take(lock);
     pid_t child = begin_stepped(take_only);
@@ -229,14 +230,14 @@ static bool die_woken_late(long steps, struct found *found) {
     return die_woken(steps, found, true);
 }
 
-/* A death behind each step. The last child of all ended before. */
+/* A death after each step. The last child of all ended before. */
 static bool find_all(const char *of, bool (*die)(long, struct found *)) {
     struct found found = {0};
     long steps = 0;
     while (die(steps, &found))
         steps++;
-    printf("%s: %ld deaths; the next one was given the lock %u times, told of a death %u, and stuck "
-           "%u\n",
+    printf("%s: %ld deaths; the next one got the lock %u times, learned of a death %u, and was "
+           "stuck %u\n",
            of, steps, found.given, found.left, found.stuck);
     return found.stuck == 0 && found.given > 0 && (found.left > 0 || die == die_woken_late);
 }

@@ -1,8 +1,8 @@
 /* SPDX-License-Identifier: MIT */
-/* What a cache takes of memory: all of it while it is made, and none of that is moved or freed by a
- * later call, which frees what it takes itself. Prints each call that does otherwise, and how many
- * calls were made.
- * Usage: memory [CALLS], 200,000 if there is no number. */
+/* The memory of a cache: all of it is allocated while it is made, and none of that is moved or freed by
+ * a later call, which frees what it allocates itself. Prints each call that does otherwise, and how
+ * many calls were made.
+ * Usage: memory [CALLS], by default 200,000. */
 #include "cache_c.h"
 
 #include <errno.h>
@@ -12,12 +12,12 @@
 
 enum { ROOM = 1 << 22, KEYS = 500, LONGEST = 3000 };
 
-/* The memory of the cache, and how much of it is taken. */
+/* The memory of the cache, and how much of it is used. */
 static _Alignas(16) unsigned char room[ROOM];
 static size_t taken;
 static bool is_making;
 
-/* What the call under way has taken and not freed yet, and whether it touched the cache's memory. */
+/* What the current call has allocated and not freed yet, and whether it touched the cache's memory. */
 static unsigned kept, moved, freed;
 
 static cache_tried got(void *at) { return (cache_tried){at != NULL, at ? at : room}; }

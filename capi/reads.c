@@ -1,7 +1,7 @@
 /* SPDX-License-Identifier: MIT */
-/* Two caches are asked the same: one by cache_ask, the other by shared look-ups, which are counted
- * later. Each answer, each row and each count must be the same. Prints each line that is not so, and
- * how many were. */
+/* Two caches get the same requests: one by cache_ask, the other by shared look-ups, which are counted
+ * later. Each answer, each row and each count must be the same. Prints each line that fails, and
+ * how many did. */
 #define _GNU_SOURCE
 #include "cache_c.h"
 
@@ -116,7 +116,7 @@ int main(void) {
             cache_ask(other.at, &change, (uint8_t *)key, len, (uint8_t *)text, text_len);
         WANT(a.kind == b.kind && a.number == b.number);
 
-        /* fetches: of the one they are events, of the other they are counted behind them */
+        /* fetches: in one cache they are events, in the other they are counted after them */
         uint32_t rows[MOST_USES];
         size_t uses = 0;
         uint64_t misses = 0;
@@ -143,7 +143,7 @@ int main(void) {
             else
                 misses++;
         }
-        /* in another order than they came in */
+        /* in another order than that of the look-ups */
         for (size_t i = 0; i + 1 < uses; i += 2) {
             uint32_t row = rows[i];
             rows[i] = rows[i + 1];

@@ -9,12 +9,12 @@
  *     shm-size 33554432
  *     slots 4096
  *     ttl 0
- *     values 1                   (0: strings have their lengths alone)
+ *     values 1                   (0: strings have only their lengths)
  *
- * The events of the cache follow in their order, each a record_event in the order of bytes of an
- * x86_64 or aarch64, and right behind it the bytes of its key, then those of the string that is stored
- * or answered, if the head says values 1. A string has the byte of the extension at its end that says
- * what it is. */
+ * The events of the cache follow in their order, each a record_event in the byte order of
+ * x86_64 and aarch64, followed by the bytes of its key, then those of the string that is stored
+ * or answered, if the head says values 1. A string has a byte at its end by which the extension
+ * knows its type. */
 #ifndef RECORD_FILE_H
 #define RECORD_FILE_H
 
@@ -25,7 +25,7 @@
 /* More than a head has. */
 enum { RECORD_HEAD = 256 };
 
-/* A kind that is no request: a process died in a call, and an empty cache took the place of this one. */
+/* A kind that is no request: a process died in a call, and an empty cache replaced this one. */
 enum { RECORD_REMADE = 255 };
 
 typedef struct {
@@ -33,12 +33,12 @@ typedef struct {
     uint64_t number;  /* a number that is stored, or the length of a string; the step of a count; what
                        * a swap expects */
     uint64_t set;     /* the ttl of a store or a count; what a swap sets */
-    uint64_t answer;  /* a number that is answered, or the length of a string; else 0 */
+    uint64_t answer;  /* a number that is answered, or the length of a string; otherwise 0 */
     uint32_t event;   /* the lowest 32 bits of the event's number; the first one is 0 */
-    uint32_t process; /* whose call it is */
+    uint32_t process; /* the process of the call */
     uint32_t key_len;
     uint8_t kind;  /* a request, or RECORD_REMADE */
-    uint8_t value; /* the kind of value that a store stores; else 0 */
+    uint8_t value; /* the kind of value that a store stores; otherwise 0 */
     uint8_t reply; /* the kind of the answer */
     uint8_t zero;
 } record_event;

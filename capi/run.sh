@@ -1,12 +1,12 @@
 #!/usr/bin/env bash
 # SPDX-License-Identifier: MIT
 # Compiles the programs of this folder over the library for C, runs each in bounded time, and judges what it prints:
-# `test` makes each call, with each null too, `reads` looks up by many and counts later, `forked` has eight processes
-# that count to a million and 300 that are killed, `copies` reads outside of the lock while others store, `deaths` kills
-# one after instruction after instruction, `locks` the same at the lock alone, `lanes` the same of reads in lanes,
-# `lanes_model` goes through all interleavings of two readers and a writer, and finds each of the faults that it has,
-# `full` fills 2 GB of words and reads them back, and `memory` looks at what calls do with memory. The last line is
-# 'N passed, N failed'; what this machine or this library can't do is skipped, and a line says so.
+# `test` makes each call, also with each null pointer; `reads` compares shared look-ups, which are counted later, with
+# calls; `forked` has eight processes that count to a million and 300 that are killed; `copies` reads outside of the lock
+# while others store; `deaths` kills a process after each instruction in turn; `locks` does the same at the lock, and
+# `lanes` for reads in lanes; `lanes_model` checks all interleavings of two readers and a writer, and finds each of its
+# faults; `full` fills 2 GB of words and reads them again; and `memory` checks how calls use memory. The last line is
+# 'N passed, N failed'; a line says what is skipped because this machine or this library cannot do it.
 #
 #   capi/run.sh [--quick]
 #
@@ -34,7 +34,7 @@ pass() { passed=$((passed + 1)) && echo "passed: $1"; }
 fail() { failed=$((failed + 1)) && echo "failed: $1"; }
 skip() { echo "skipped: $1"; }
 
-# Within so many seconds this program with its words ends well, and prints these lines.
+# Runs this program with its arguments for at most this many seconds; it has to succeed, and to print these lines.
 run() {
     local seconds=$1 command status=0 line
     read -ra command <<<"$2"
@@ -61,7 +61,7 @@ cc "${flags[@]}" "$here/replay.c" "$library" -o "$scratch/apcu_replay"
 # It has an allocator of its own.
 cc "${flags[@]}" "$here/memory.c" "$library" -o "$scratch/memory"
 cc "${flags[@]}" "$here/lanes_model.c" -o "$scratch/lanes_model"
-# No step is the loader's.
+# No step is in the loader.
 cc "${flags[@]}" "$here/locks.c" -lpthread -Wl,-z,now -o "$scratch/locks"
 cc "${flags[@]}" "$here/lanes.c" "$here/shared_cache.c" "$library" -lpthread -Wl,-z,now -o "$scratch/lanes"
 pass 'each program is compiled without a warning'
@@ -79,7 +79,7 @@ run 60 memory '.*, [1-9][0-9]* expunges, .*; 0 calls did otherwise'
 run 300 'forked 125000 300' '8 children counted to 1000000 of 1000000' '300 kills: .*' \
     '0 children read a torn text .*'
 run 120 'copies 300' '[1-9][0-9]* copies were whole, .*, 0 were torn'
-run 300 deaths 'deaths in a store: .*; 0 wrong' 'deaths in making anew: 0 .*, 0 .*; 0 wrong' \
+run 300 deaths 'deaths in a store: .*; 0 wrong' 'deaths in recreating it: 0 .*, 0 .*; 0 wrong' \
     'deaths in a copy: .*; 0 wrong'
 run 120 lanes_model 'no process dies, .*: as it should be' 'each process may die .*: as it should be'
 for fault in {1..9}; do

@@ -15,12 +15,12 @@ const char *cache_c_version(void) { return CACHE_C_VERSION; }
 
 enum { LINE = 64 }; /* bytes of a line of the processor's cache; a multiple of every alignment */
 
-/* What the mapping begins with. Behind it stand the handle and then the room, from which the
- * cache's words and index are taken. All of it stands at one address in every process, so that
- * pointers of one are good in each. */
+/* The mapping begins with this. The handle follows, and then the room from which the
+ * cache's words and index are allocated. All of it is at one address in every process, so that
+ * pointers of one are valid in each. */
 struct head {
     robust_lock lock;
-    atomic_bool busy; /* a call is under way: the words may be those of half a change */
+    atomic_bool busy; /* a call is in progress: the words may be those of half a change */
     shared_deaths deaths;
     uint64_t *words;        /* those of the cache */
     struct cache_view view; /* of the cache as it is, for those that read in a lane */
@@ -51,8 +51,8 @@ static bool is_in_room(const void *at) {
     return (uintptr_t)at >= (uintptr_t)room && (uintptr_t)at < (uintptr_t)end;
 }
 
-/* What cache_new takes is for all processes. What any other call takes it gives back before it
- * ends, so that is this process's own, and goes with it. */
+/* What cache_new allocates is for all processes. What any other call allocates it frees before it
+ * returns, so that is this process's own, and ends with it. */
 cache_tried rattle_alloc(size_t n, size_t align) {
     (void)align; /* at most 16, which malloc and whole lines keep */
     if (!is_making)
@@ -78,7 +78,7 @@ cache_tried rattle_realloc(void *at, size_t kept, size_t n, size_t align) {
     return more;
 }
 
-/* The room is taken from the start each time, so nothing is given back to it. */
+/* The room is used from the start each time, so nothing is freed into it. */
 void rattle_dealloc(void *at) {
     if (!is_in_room(at))
         free(at);
@@ -86,8 +86,8 @@ void rattle_dealloc(void *at) {
 
 int rattle_errno(void) { return errno; }
 
-/* Makes an empty cache. Nothing of an older one is read, and each process takes the same places
- * for it: one that is killed in here leaves nothing that the next one needs. */
+/* Makes an empty cache. Nothing of an older one is read, and each process uses the same places
+ * for it: a process that is killed in here leaves nothing that the next one needs. */
 static uint32_t make(void) {
     seats_clear(&head->seats);
     lanes_forget(&head->lanes);
@@ -135,22 +135,22 @@ void shared_end(void) {
     head = NULL;
 }
 
-/* A process that is killed has done all its writes up to an instruction and none behind it. So the
- * compiler alone must keep the order of this flag and what the call writes. */
+/* A process that is killed has done all its writes up to an instruction and none after it. So only
+ * the compiler must keep the order of this flag and what the call writes. */
 static void set_busy(bool busy) {
     atomic_signal_fence(memory_order_seq_cst);
     atomic_store_explicit(&head->busy, busy, memory_order_relaxed);
     atomic_signal_fence(memory_order_seq_cst);
 }
 
-/* The lock, a whole cache, and no use that waits. */
+/* The lock, a valid cache, and no use that waits to be counted. */
 static void take_lock(void) {
     int locked = robust_lock_take(&head->lock);
     bool has_uses = lanes_wait(&head->lanes);
     if (locked == EOWNERDEAD) {
-        /* The lock is ours. Where no call was under way its cache stands there whole. Where one
-         * was, the flag stays until a new cache is made. Whoever dies in here leaves the lock to
-         * the next one as it found it, with the same news. */
+        /* The lock is ours. If no call was in progress, its cache is valid. If one was, the flag
+         * stays until a new cache is made. A process that dies in here leaves the lock to
+         * the next one in the state in which it found it. */
         bool is_inside = atomic_load_explicit(&head->busy, memory_order_relaxed);
         is_used = true;
         if (is_inside && make() != CACHE_MADE)
@@ -165,7 +165,7 @@ static void take_lock(void) {
         }
         set_busy(false);
     } else if (locked != 0) {
-        abort(); /* it is no lock: somebody wrote over it */
+        abort(); /* it is no lock: it was overwritten */
     }
     if (has_uses) {
         lanes_count(&head->lanes, handle);
@@ -187,7 +187,7 @@ void shared_leave(void) {
     robust_lock_give(&head->lock);
 }
 
-/* A read that is under way: in a lane, or with the lock, as lane 0. */
+/* A read in progress: in a lane, or with the lock, as lane 0. */
 struct reading {
     lane *mine;
     bool has_lock;

@@ -1,7 +1,7 @@
 /* SPDX-License-Identifier: MIT */
-/* Each call in one process: what it answers, and what it refuses. Prints each line that is not so,
- * and how many were.
- * Usage: test [nulls], which tries null pointers alone. */
+/* Each call in one process: its answers, and what it refuses. Prints each line that fails,
+ * and how many did.
+ * Usage: test [nulls], which tries only null pointers. */
 #define _GNU_SOURCE
 #include "shared_cache.h"
 
@@ -124,7 +124,7 @@ static cache_row row_of(const char *key, uint64_t t) {
     return cache_find_row(at, (const uint8_t *)key, strlen(key), t);
 }
 
-/* Whether these bytes stand at the place. */
+/* Whether these bytes are at the place. */
 static bool stand(uint32_t place, const char *text) {
     uint8_t found[64] = {0};
     size_t len = strlen(text);
@@ -206,13 +206,13 @@ static void requests(void) {
     a = look("n", 12);
     WANT(a.kind == CACHE_INT && a.number == 2);
 
-    /* A row of five seconds is there in the fifth, and is not in the sixth. */
+    /* A row of five seconds exists in the fifth, and does not in the sixth. */
     cache_request brief = {.kind = CACHE_STORE, .value = CACHE_INT, .ttl = 5, .t = 20};
     WANT(ask(brief, "brief", "").kind == CACHE_YES);
     WANT(exists("brief", 25) == CACHE_YES);
     WANT(exists("brief", 26) == CACHE_NO);
 
-    /* The last second, and a time that ends behind it. */
+    /* The last second, and a time that ends after it. */
     cache_request last = {.kind = CACHE_STORE, .value = CACHE_NULL, .ttl = UINT32_MAX};
     last.t = UINT64_MAX;
     WANT(ask(last, "last", "").kind == CACHE_YES);
@@ -240,8 +240,8 @@ static void requests(void) {
     free(large);
 }
 
-/* What is told of a row and of all: every row has its place once, and rows, gaps and slots are all
- * words. */
+/* Information about a row and about all: every row has its place once, and rows, gaps and slots are
+ * all words. */
 static void told(void) {
     WANT(store("told", CACHE_STR, 0, "a text", 30) == CACHE_YES);
     look("told", 31);
@@ -318,7 +318,7 @@ static void told(void) {
     WANT(exists("told", 35) == CACHE_NO);
 }
 
-/* Whether the text that a fetch by this seat finds is held: it stands there when its row is gone. */
+/* Whether the text that a fetch by this seat finds is held: it does not change when its row is dropped. */
 static bool holds(uint64_t seat, uint64_t least) {
     cache_row row;
     store("held", CACHE_STR, 0, "a text", 30);
@@ -337,7 +337,7 @@ static void seats(void) {
     for (uint32_t seat = 0; seat < CACHE_SEATS; seat++) {
         WANT(holds(seat, 6));
         WANT(cache_let_go(at, seat) && cache_let_go(at, seat));
-        /* What is let go goes with the next store. */
+        /* What is released is freed by the next store. */
         WANT(store("held", CACHE_INT, 1, "", 30) == CACHE_YES);
         WANT(cache_list_rows(at, shape.slots, 0, &row, 1) == 0);
     }
@@ -350,7 +350,7 @@ static void seats(void) {
     WANT(cache_list_rows(at, shape.slots, 0, &row, 1) == 0);
 }
 
-/* What no call may be asked, and what it says; none of it changes the cache. */
+/* Calls that are not allowed, and their answers; none of them changes the cache. */
 static void refused(void) {
     const uint8_t *key = (const uint8_t *)"k";
     cache_request fetch = {.kind = CACHE_LOOK, .t = 40};
@@ -362,7 +362,7 @@ static void refused(void) {
     WANT(store("k", 4, 0, "", 40) == CACHE_BAD);
     WANT(store("k", UINT32_MAX, 0, "", 40) == CACHE_BAD);
 
-    /* Four gigabytes that nobody may read. */
+    /* Four gigabytes that must not be read. */
     size_t long_len = (size_t)1 << 32;
     uint8_t *long_text =
         mmap(NULL, long_len, PROT_NONE, MAP_PRIVATE | MAP_ANONYMOUS | MAP_NORESERVE, -1, 0);
@@ -405,7 +405,7 @@ static void hashes(void) {
     WANT(fetch.hash == 7);
 }
 
-/* Each call with each null, and with lengths that no slice has; none of it changes the cache. */
+/* Each call with each null pointer, and with lengths that no slice has; none of it changes the cache. */
 static void nulls(void) {
     const uint8_t *key = (const uint8_t *)"k";
     const size_t longest = (size_t)1 << 63;
@@ -465,7 +465,7 @@ static void nulls(void) {
     cache_counts after = cache_get_counts(at);
     WANT(memcmp(&before, &after, sizeof before) == 0);
 
-    /* A null to nothing is nothing. */
+    /* A null pointer with length 0 is no bytes. */
     WANT(look("", 50).kind == CACHE_ABSENT);
     WANT(cache_ask(at, &put, NULL, 0, NULL, 0).kind == CACHE_YES);
     cache_answer empty = cache_ask(at, &fetch, NULL, 0, NULL, 0);

@@ -19,7 +19,7 @@ static PHP_GINIT_FUNCTION(apcu)
 	memset(apcu_globals, 0, sizeof *apcu_globals);
 }
 
-/* Where there are too many slots for the words, the server does not start, as with APCu. Where there
+/* If there are too many slots for the words, the server does not start, as with APCu. If there
  * are too many words, or the system has no memory for them, it starts without a cache. */
 static void start_cache(void)
 {
@@ -41,7 +41,7 @@ static void start_cache(void)
 	}
 	for (shape.words = (uint32_t) 1 << 31; shape.words > 2 && !apcu_shm_is_good(&shape); shape.words /= 2) {
 	}
-	zend_error(E_CORE_WARNING, "apc.shm_size is " ZEND_LONG_FMT " bytes, and no cache has more than %zu",
+	zend_error(E_CORE_WARNING, "apc.shm_size is " ZEND_LONG_FMT " bytes, which exceeds the maximum of %zu; APCu is disabled",
 		APCU_G(shm_size), (size_t) shape.words * sizeof(uint64_t));
 }
 
@@ -58,8 +58,8 @@ static void start_record(void)
 		return;
 	}
 #ifdef ZTS
-	/* One thread of a process becomes the writer, and no thread is known by its process. */
-	php_log_err("apcu: where PHP has threads nothing is recorded; apc.record_dir is passed over");
+	/* One thread of a process becomes the writer, and a process number does not identify a thread. */
+	php_log_err("apcu: apc.record_dir is ignored: recording is not supported on thread-safe (ZTS) builds");
 #else
 	tell(apcu_record_start(APCU_G(record_dir), APCU_G(record_values), (uint64_t) APCU_G(record_size)));
 #endif

@@ -1,17 +1,17 @@
 /* SPDX-License-Identifier: MIT */
-/* The locks round callbacks of apcu_entry.
+/* The locks around callbacks of apcu_entry.
  *
  * Keys are spread over groups, and each group has a lock, so a slow callback keeps only callers of keys
  * of its group waiting. While a process waits for a lock it holds nothing, except the locks of the
  * callbacks that it is in; so a wait can end at any time.
  *
- * Callbacks in one another take several locks, in any order. Before a process that owns one waits for
+ * Nested callbacks take several locks, in any order. Before a process that owns one waits for
  * another, it notes that with each lock it owns. If the owner of the lock that it wants waits, directly or
- * through others, for one of its own, none of them would ever go on: then its callback runs without the
- * lock. Each of them notes first and looks then, so at least the last one sees the circle. */
+ * through others, for one of its own, none of them would ever continue: then its callback runs without the
+ * lock. Each of them notes first and checks then, so at least the last one sees the cycle. */
 #include "php_apcu.h"
 
-/* A wait is cut into slices, between which PHP's interrupts are run. */
+/* A wait is divided into slices, between which PHP's interrupts are run. */
 #define SLICE_NANOSECONDS 100000000
 
 #if PHP_VERSION_ID >= 80200
@@ -113,7 +113,7 @@ static bool wait_for(uint32_t group, bool *is_taken)
 			forget_parent();
 		}
 	}
-	/* The lock guards no memory, so nothing is to be mended if its last owner died. */
+	/* The lock guards no memory, so nothing has to be repaired if its last owner died. */
 	*is_taken = error == 0 || error == EOWNERDEAD;
 	if (*is_taken) {
 		if (since) {
@@ -152,7 +152,7 @@ static void release(uint32_t group)
 
 void apcu_entry_end(const apcu_entry_lock *lock)
 {
-	/* Neither the lock of a parent, nor one that the end of the request released. */
+	/* Neither the lock of a parent, nor one that was released at the end of the request. */
 	if (lock->process == getpid() && APCU_G(entry_process) == lock->process && APCU_G(entry_depth)[lock->group] > 0
 			&& --APCU_G(entry_depth)[lock->group] == 0) {
 		release(lock->group);

@@ -23,7 +23,7 @@ enum {
 #define ITER_ALL 0xffffffffL
 #define DEFAULT_CHUNK 100
 
-/* The rows and slots that are listed before other processes may have the lock. */
+/* The rows and slots that are listed before other processes may take the lock. */
 #define ROWS_AT_ONCE 1024
 #define SLOTS_AT_ONCE 8192
 
@@ -41,9 +41,9 @@ typedef struct {
 	size_t chunk_size;
 	zend_string *regex;  /* null: any key */
 	HashTable *keys;     /* null: any key */
-	uint32_t slot, end;  /* slots that are still to be looked at */
+	uint32_t slot, end;  /* slots that are still to be listed */
 	size_t listed, kept; /* rows of this walk, and those of them that matched */
-	apcu_item *items;    /* the chunk, and how far it was told */
+	apcu_item *items;    /* the chunk, and how far it was returned */
 	size_t count, at;
 	bool has_totals;
 	zend_long hits, total;
@@ -54,7 +54,7 @@ typedef struct {
 static zend_class_entry *iterator_ce;
 static zend_object_handlers iterator_handlers;
 
-/* Names of what is told of a row. */
+/* Names of the fields of an item. */
 static struct {
 	zend_string *type, *user, *key, *value, *num_hits, *mtime, *creation_time, *deletion_time, *access_time,
 		*ref_count, *mem_size, *ttl;
@@ -91,7 +91,7 @@ static void drop_chunk(apcu_iterator *it)
 	apcu_item *items = it->items;
 	size_t count = it->count;
 
-	/* Destructors may come back to the iterator. */
+	/* Destructors may call the iterator. */
 	it->items = NULL;
 	it->count = it->at = 0;
 	free_items(items, count);
@@ -153,7 +153,7 @@ static bool lives(const cache_row *row, time_t t)
 	return row->ttl == 0 || row->ctime + row->ttl >= (uint64_t) t;
 }
 
-/* Whether keys are searched for. Runs no PHP code. */
+/* Whether keys are tested. Runs no PHP code. */
 typedef struct {
 	HashTable *keys;
 	pcre2_code *code;
@@ -192,7 +192,7 @@ static bool matches(const search *s, const char *key, size_t len)
 	return !s->keys || zend_hash_str_exists(s->keys, key, len);
 }
 
-/* A row as it is now, and its value; nothing is counted. False where it is gone. */
+/* A row as it is now, and its value; nothing is counted. False if it was dropped. */
 static bool peek(zend_string *key, cache_row *row, zval *value)
 {
 	zend_string *text = NULL;
@@ -227,7 +227,7 @@ static bool peek(zend_string *key, cache_row *row, zval *value)
 		}
 		return false;
 	}
-	/* A value that can't be read is told as null. */
+	/* A value that can't be read is returned as null. */
 	apcu_unpack(value, &row->value, text ? ZSTR_VAL(text) : NULL, text);
 	return true;
 }
@@ -240,7 +240,7 @@ static void add(HashTable *told, zend_string *name, zend_long number)
 	zend_hash_add_new(told, name, &value);
 }
 
-/* False where the row is gone. */
+/* False if the row was dropped. */
 static bool tell(apcu_item *item, zend_long format, cache_row row, const char *key)
 {
 	zval value;
@@ -295,8 +295,8 @@ static bool tell(apcu_item *item, zend_long format, cache_row row, const char *k
 	return true;
 }
 
-/* How many rows to list for so many that match: as many of them match as did before in this walk. What is listed in
- * vain is listed again for the next chunk. */
+/* How many rows to list to get this many that match, if as many of them match as did before in this walk. What is
+ * listed in vain is listed again for the next chunk. */
 static size_t rows_for(const apcu_iterator *it, size_t matches)
 {
 	if (it->regex || it->keys) {
@@ -307,8 +307,8 @@ static size_t rows_for(const apcu_iterator *it, size_t matches)
 	return matches < ROWS_AT_ONCE ? matches : ROWS_AT_ONCE;
 }
 
-/* Keeps those rows of a list that live and match, up to the end of the slot in which the chunk is
- * full; how many they are. Slots behind that one are looked at again. */
+/* Keeps those rows of a list that are live and match, up to the end of the slot in which the chunk is
+ * full, and returns their number. Slots after that one are listed again. */
 static size_t keep_matches(apcu_iterator *it, const search *s, apcu_rows *list, size_t wanted, time_t t)
 {
 	size_t kept = 0, key = 0, kept_key = 0;
@@ -333,9 +333,9 @@ static size_t keep_matches(apcu_iterator *it, const search *s, apcu_rows *list, 
 	return kept;
 }
 
-/* The next chunk, in place of the one before; whether the iterator stands on a row then. Whole slots are
- * taken until there are more rows than a chunk should have. Code of the values that come or go may call
- * the iterator, too, and take and leave chunks of its own. */
+/* The next chunk, which replaces the one before; whether the iterator is on a row then. Whole slots are
+ * taken until there are more rows than a chunk should have. Code of the values that are made or freed may call
+ * the iterator, too, and take and free chunks of its own. */
 static bool fetch_chunk(apcu_iterator *it)
 {
 	time_t t = apcu_time();
@@ -476,7 +476,7 @@ ZEND_METHOD(APCUIterator, __construct)
 	it->is_ready = true;
 }
 
-/* The iterator of a method that takes no arguments; null, and an error, where it is not ready. */
+/* The iterator of a method that takes no arguments; null, and an error, if it is not initialised. */
 static apcu_iterator *ready(zend_object *object)
 {
 	apcu_iterator *it = iterator_of(object);
@@ -517,7 +517,7 @@ ZEND_METHOD(APCUIterator, valid)
 	RETURN_BOOL(it->at < it->count || fetch_chunk(it));
 }
 
-/* The row that the iterator stands on; null where it is at its end. */
+/* The row of the iterator; null if it is at its end. */
 static apcu_item *current(apcu_iterator *it)
 {
 	if (it->at >= it->count && !fetch_chunk(it)) {

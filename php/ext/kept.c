@@ -91,7 +91,7 @@ static struct {
 	size_t wanted;            /* bytes that this request's values lacked */
 } all;
 
-/* The stamps that fetches met, each at the place of its number. The first fetch of a stamp notes it, and the second
+/* The stamps of fetched values, each at the place of its number. The first fetch of a stamp notes it, and the second
  * one keeps the value. */
 static struct {
 	uint64_t stamp;
@@ -530,7 +530,7 @@ void apcu_kept_end_request(void)
 {
 	size_t most = most_bytes();
 
-	/* What this request used stays: values that have no room together would else replace one another in each request. */
+	/* What this request used stays: values that do not fit together would otherwise evict one another in each request. */
 	while (all.wanted > 0 && all.oldest && all.oldest->request != all.request
 			&& all.bytes - all.evicted_bytes + all.wanted > most) {
 		evict(all.oldest);
@@ -632,7 +632,7 @@ void apcu_kept_admit(zend_string *key, uint64_t stamp, zval *value)
 		return;
 	}
 
-	/* The stamp of a row never comes again once the row has another one. */
+	/* The stamp of a row is never used again once the row has another one. */
 	apcu_kept *before = find(key, zend_string_hash_val(key));
 	if (before) {
 		evict(before);

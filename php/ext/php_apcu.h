@@ -12,7 +12,7 @@
 
 #define PHP_APCU_EXTNAME "apcu"
 
-/* The version of APCu whose functions these are; ext-apcu of a composer.json is compared with it. */
+/* The version of APCu that this extension corresponds to; ext-apcu of a composer.json is compared with it. */
 #define PHP_APCU_VERSION "5.1.22"
 
 /* The version of this extension itself. */
@@ -39,11 +39,11 @@ ZEND_BEGIN_MODULE_GLOBALS(apcu)
 	zend_long kept_size;
 	zend_long record_size;
 
-	time_t request_time;  /* 0: not asked for yet */
+	time_t request_time;  /* 0: not known yet */
 	pid_t entry_process;  /* the process that the next two are of */
-	uint32_t entry_owned; /* how many locks of apcu_entry it owns */
-	uint32_t entry_depth[APCU_ENTRY_GROUPS]; /* how many of its callbacks are under each */
-	uint32_t lengths[64]; /* bytes of a long string that was fetched, by its key */
+	uint32_t entry_owned; /* the number of locks of apcu_entry that it owns */
+	uint32_t entry_depth[APCU_ENTRY_GROUPS]; /* the number of its callbacks under each */
+	uint32_t lengths[64]; /* lengths of long strings that were fetched, by their keys */
 ZEND_END_MODULE_GLOBALS(apcu)
 
 ZEND_EXTERN_MODULE_GLOBALS(apcu)
@@ -75,33 +75,33 @@ void apcu_preload(const char *folder);
 
 /* values.c */
 
-/* A value as the cache keeps it. A string's last byte says what its bytes are, and nobody else reads
- * them. */
+/* A value as the cache keeps it. A string's last byte says what its bytes are; only the extension reads
+ * it. */
 typedef struct {
 	uint32_t kind;       /* CACHE_NULL, CACHE_BOOL, CACHE_INT or CACHE_STR */
 	uint64_t number;
 	const char *bytes;
 	size_t len;
 	char eight[sizeof(double) + 1];
-	zend_string *text;   /* what bytes are of, or null */
+	zend_string *text;   /* the owner of the bytes, or null */
 	unsigned char *data; /* the same, by another module */
 } apcu_value;
 
 /* Strings of at least this length may be stamped. It takes less time to copy a shorter one than to look it up. */
 #define APCU_LONG_STRING (64 * 1024)
 
-/* False where a value can't be stored; a warning or an exception says why. It may run PHP code. A long string is
+/* False if a value can't be stored; a warning or an exception says why. It may run PHP code. A long string is
  * copied to be stamped, an array is not. */
 bool apcu_pack(apcu_value *out, zval *value, bool stamps_string);
 
-/* A value of which there is a text of serialize already. */
+/* A value that is already serialized. */
 void apcu_pack_text(apcu_value *out, const char *text, size_t len);
 
 void apcu_value_free(apcu_value *value);
 
-/* The value of an answer, of a string by its bytes, which are written over. They may be those of `text`;
- * that is used up in any case. `out` was a value before, or undefined. False where there is no value; then
- * `out` is null or as it was. It may run PHP code. */
+/* The value of an answer, of a string by its bytes, which are overwritten. They may be those of `text`;
+ * that is consumed in any case. `out` was a value before, or undefined. False if there is no value; then
+ * `out` is null or unchanged. It may run PHP code. */
 bool apcu_unpack(zval *out, const cache_answer *answer, char *bytes, zend_string *text);
 
 /* A stamp and the mark: the last bytes of a stamped value. They begin at a word of the cache. */
@@ -120,7 +120,7 @@ bool apcu_is_plain(const char *bytes, size_t len);
 
 void apcu_serializers_start(int module_number);
 
-/* Looks for apc.serializer among those that were registered, until it is there. */
+/* Looks for apc.serializer among those that were registered, until it is found. */
 void apcu_serializers_find(void);
 
 /* Their names, with commas between. */
@@ -163,10 +163,10 @@ apcu_kept_counts apcu_kept_count(void);
 
 /* functions.c */
 
-/* The second of a call, as apc.use_request_time wants it. */
+/* The second of a call, by apc.use_request_time. */
 time_t apcu_time(void);
 
-/* Whether the value was stored; an exclusive one never is over a row that lives. */
+/* Whether the value was stored; an exclusive one is never stored over a live row. */
 bool apcu_store_value(zend_string *key, zval *value, zend_long ttl, bool is_exclusive);
 bool apcu_store_packed(zend_string *key, const apcu_value *value, time_t t, zend_long ttl, bool is_exclusive);
 bool apcu_delete_key(const zend_string *key);
@@ -179,27 +179,27 @@ typedef struct {
 	uint32_t group;
 } apcu_entry_lock;
 
-/* Takes the lock round the callbacks of a key's group, once a process, however many callbacks are in one
- * another. It may run PHP code. False if an exception was thrown, then nothing was taken; it may also leave
- * by a bailout. A callback that would never get the lock, as its owner waits for this process, has none. */
+/* Takes the lock around the callbacks of a key's group, once per process, however many callbacks are
+ * nested. It may run PHP code. False if an exception was thrown, then nothing was taken; it may also leave
+ * by a bailout. A callback that would never get the lock, because its owner waits for this process, runs without. */
 bool apcu_entry_begin(zend_string *key, apcu_entry_lock *lock);
 
 /* Releases it; in a forked child nothing, since the lock is still its parent's. */
 void apcu_entry_end(const apcu_entry_lock *lock);
 
-/* At the end of a request: releases what a callback that never returned left taken. */
+/* At the end of a request: releases the locks of callbacks that never returned. */
 void apcu_entry_leave(void);
 
 /* iterator.c */
 
 void apcu_iterator_start(zend_class_entry *ce, int module_number);
 
-/* Removes what an iterator still finds. False, and an error, where it is none. */
+/* Removes what an iterator still finds. False, and an error, if it is not initialised. */
 bool apcu_iterator_delete(zval *object);
 
 /* info.c */
 
-/* Makes the names of what is told of a row, once, when PHP starts. */
+/* Makes the names of a row's fields, once, when PHP starts. */
 void apcu_info_start(void);
 
 /* Rows that were listed under the lock, and the bytes of their keys one after another. */
@@ -208,14 +208,14 @@ typedef struct {
 	size_t count, room;
 	char *keys;
 	size_t used, size;
-	bool lacks_keys; /* that there was no room for, and not rows */
+	bool lacks_keys; /* there was no room for keys, rather than for rows */
 } apcu_rows;
 
 void apcu_rows_start(apcu_rows *list, size_t room, size_t size);
 void apcu_rows_free(apcu_rows *list);
 
-/* Under the lock: adds all rows of a slot. False where there is no room for them all; then none was
- * added, and apcu_rows_grow, outside the lock, gives more. */
+/* Under the lock: adds all rows of a slot. False if there is no room for them all; then none was
+ * added, and apcu_rows_grow, outside the lock, makes more. */
 bool apcu_rows_add(apcu_rows *list, uint32_t slot);
 void apcu_rows_grow(apcu_rows *list);
 

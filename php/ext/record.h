@@ -1,6 +1,6 @@
 /* SPDX-License-Identifier: MIT */
-/* The record of what the cache was asked and what it answered: with apc.record_dir the server writes
- * one file, of which php/judge.php tells whether each answer was the right one. */
+/* The record of the cache's requests and answers: with apc.record_dir the server writes
+ * one file, with which php/judge.php checks whether each answer was the right one. */
 #ifndef APCU_RECORD_H
 #define APCU_RECORD_H
 
@@ -11,8 +11,8 @@
  * ended. */
 extern bool apcu_is_recorded;
 
-/* Before there is a second process and after the cache was made: makes the folder, unless it is there,
- * and the file. `limit` is how many bytes the file may have at most, 0 any number. A message if that
+/* Before there is a second process and after the cache was made: makes the folder, unless it exists,
+ * and the file. `limit` is the largest size of the file in bytes, 0 for no limit. A message if that
  * failed; then nothing is recorded. */
 const char *apcu_record_start(const char *folder, bool has_values, uint64_t limit);
 
@@ -21,15 +21,15 @@ const char *apcu_record_start(const char *folder, bool has_values, uint64_t limi
 bool apcu_record_is_on(void);
 
 /* Under the lock, before another process learns of the answer: appends an event. True if
- * apcu_record_write has something to do when the lock was released. */
+ * apcu_record_write has something to do after the lock is released. */
 bool apcu_record_note(const cache_request *request, const zend_string *key, const char *bytes, size_t len,
 	const cache_answer *answer);
 
-/* Under the lock, if its last owner died; `is_remade`: an empty cache took the place of the last one.
+/* Under the lock, if its last owner died; `is_remade`: an empty cache replaced the last one.
  * True as above. */
 bool apcu_record_recover(bool is_remade);
 
-/* When the lock was released: writes what is due. A message for the log if recording ended. */
+/* After the lock was released: writes what is due. A message for the log if recording ended. */
 const char *apcu_record_write(void);
 
 /* At the end of a request: writes what waits for a second or longer. At the end of the process:

@@ -31,7 +31,7 @@ static PHP_INI_MH(on_shm_size)
 	return SUCCESS;
 }
 
-/* apc.gc_ttl, apc.smart and apc.mmap_file_mask are known, and do nothing. */
+/* apc.gc_ttl, apc.smart and apc.mmap_file_mask are accepted, and have no effect. */
 PHP_INI_BEGIN()
 	STD_PHP_INI_BOOLEAN("apc.enabled", "1", PHP_INI_SYSTEM, OnUpdateBool, enabled, zend_apcu_globals, apcu_globals)
 	STD_PHP_INI_ENTRY("apc.shm_segments", "1", PHP_INI_SYSTEM, on_shm_segments, shm_segments, zend_apcu_globals, apcu_globals)

@@ -1,6 +1,6 @@
 /* SPDX-License-Identifier: MIT */
-/* The memory that all processes of one fork share: a cache, the lock round its calls, and the locks
- * round callbacks of apcu_entry. */
+/* The memory that all processes of one fork share: a cache, the lock around its calls, and the locks
+ * around callbacks of apcu_entry. */
 #ifndef APCU_SHM_H
 #define APCU_SHM_H
 
@@ -11,7 +11,7 @@
 #include "lanes.h"
 #include "seats.h"
 
-/* Keys are spread over as many groups for apcu_entry. */
+/* Keys are spread over this many groups for apcu_entry. */
 #define APCU_ENTRY_GROUPS 64
 
 typedef struct {
@@ -21,51 +21,51 @@ typedef struct {
 		_Atomic uint32_t waits_for; /* 1 + the group whose lock its owner waits for; 0: none */
 	} entry[APCU_ENTRY_GROUPS];
 	volatile bool is_made;      /* there is a cache */
-	volatile bool is_busy;      /* a call that may change it is under way */
-	uint64_t remade;            /* how often a process died in such a call, and the cache was made anew */
-	_Atomic uint64_t stamps;    /* how many stamps were given to values; it goes on in a cache that is made later */
-	time_t start_time;          /* when the cache was made or cleared, or the last expunge was */
-	uint64_t expunges;          /* how many there were by then */
+	volatile bool is_busy;      /* a call that may change it is in progress */
+	uint64_t remade;            /* how often a process died in such a call, and the cache was recreated */
+	_Atomic uint64_t stamps;    /* how many stamps were given to values; it continues in a cache that is made later */
+	time_t start_time;          /* when the cache was made or cleared, or the last expunge happened */
+	uint64_t expunges;          /* the number of expunges by then */
 	struct {
 		zend_ulong hash;
 		size_t len;
 		time_t t;
 		pid_t pid;
-	} last;                     /* who stored which key last; for apc.slam_defense alone */
+	} last;                     /* the last store: process and key; only for apc.slam_defense */
 	cache_shape shape;
-	size_t size, used;          /* bytes of the mapping, and of those that were given out */
+	size_t size, used;          /* bytes of the mapping, and of those that were allocated */
 	uint8_t *cache;             /* the handle */
-	uint64_t *words;            /* what the places of the cache's strings are in */
+	uint64_t *words;            /* the words to which the places of the cache's strings refer */
 	struct cache_view view;     /* of the cache as it is, for those that read in a lane */
 	seats seats;                /* the processes that copy from them outside of the lock */
 	lanes lanes;                /* reads without the lock, and the uses that they noted */
 } apcu_shared;
 
-/* Null where there is no cache in this process. */
+/* Null if there is no cache in this process. */
 extern apcu_shared *apcu_shm;
 
 /* Whether a cache may have this shape. */
 bool apcu_shm_is_good(const cache_shape *shape);
 
-/* Maps memory and makes an empty cache of a good shape in it, which core dumps have or have not.
- * False where the system gives no memory, or no lock that processes share: then nothing is mapped.
- * `bytes` is how much was asked for. */
+/* Maps memory and makes an empty cache of a good shape in it, which core dumps contain or do not.
+ * False if the system has no memory, or no lock that processes share: then nothing is mapped.
+ * `bytes` is the requested size. */
 bool apcu_shm_start(const cache_shape *shape, bool is_dumped, size_t *bytes);
 
-/* Unmaps it, in this process alone. */
+/* Unmaps it, only in this process. */
 void apcu_shm_stop(void);
 
-/* Takes the lock. False where there is no cache; then there is nothing to unlock. While it is held
- * nobody may call what can run PHP code, take PHP's memory or leave by a bailout. Signals wait. */
+/* Takes the lock. False if there is no cache; then there is nothing to unlock. While it is held,
+ * nothing may be called that can run PHP code, use PHP's memory or leave by a bailout. Signals wait. */
 bool apcu_lock(void);
 void apcu_unlock(void);
 
-/* What an operator watches besides the cache's own counts, since the server started. */
+/* Numbers for monitoring besides the cache's own counters, since the server started. */
 typedef struct {
 	uint64_t remakes;       /* how often a process died in a call, and the cache was emptied */
 	unsigned seats;         /* seats that are taken now */
-	uint64_t longest;       /* nanoseconds of the longest wait for the lock, of those that slept */
-	uint64_t longest_entry; /* the same of a lock of apcu_entry */
+	uint64_t longest;       /* nanoseconds of the longest wait for the lock, among those that slept */
+	uint64_t longest_entry; /* the same for a lock of apcu_entry */
 } apcu_state;
 
 /* Without the lock; all are 0 if there is no cache. */
@@ -98,12 +98,12 @@ struct apcu_kept *apcu_read_kept(zend_string *key, const struct cache_found *fou
 /* In a lane or under the lock: copies the bytes of a string that was found. */
 void apcu_copy_found(uint32_t place, size_t len, char *out);
 
-/* Counts a hit of a row, or a miss for 0; if it was begun so, and again while it may. */
+/* Counts a hit of a row, or a miss for 0; if it was begun with counting, and again while it may. */
 void apcu_read_note(const apcu_reading *reading, uint32_t row, time_t t);
 bool apcu_read_may_note(const apcu_reading *reading, time_t t);
 void apcu_read_end(const apcu_reading *reading);
 
-/* Whether PHP's hash of ASCII keys is the cache's. Of other keys it is another one if char has a sign. */
+/* Whether PHP's hash of ASCII keys is the cache's. That of other keys differs if char has a sign. */
 extern bool apcu_has_hash_of_php;
 
 static zend_always_inline bool apcu_is_ascii(const zend_string *key)
@@ -136,8 +136,8 @@ static zend_always_inline uint64_t apcu_hash_of(const zend_string *key)
 	return cache_hash((const uint8_t *) ZSTR_VAL(key), ZSTR_LEN(key));
 }
 
-/* The bytes from which on a string is not copied in a lane, but held; and if there are no lanes. From some 3,000 bytes
- * on a copy under the lock takes longer than a seat, with one process too. */
+/* Strings of at least this length are not copied in a lane, but held; and if there are no lanes. From some 3,000 bytes
+ * on a copy under the lock takes longer than a seat, even with one process. */
 #define APCU_LANE_MOST 65536
 #define APCU_HELD_FROM 4096
 
@@ -146,8 +146,8 @@ static inline size_t apcu_lane_most(void)
 	return apcu_shm->lock.is_mutex ? APCU_HELD_FROM : APCU_LANE_MOST;
 }
 
-/* A string that is copied when the lock was given back; null bytes: there is none. Its bytes stay as they
- * are until it is let go, whatever others store, delete or clear. */
+/* A string that is copied after the lock was released; null bytes: there is none. Its bytes do not change
+ * until it is released, whatever other processes store, delete or clear. */
 typedef struct {
 	const char *bytes;
 	size_t len;
@@ -155,12 +155,12 @@ typedef struct {
 	unsigned seat;
 } apcu_held;
 
-/* One event under the lock: a look-up. A long string that it finds is held, but while calls are recorded,
- * and while many others are, and unless its value is kept. */
+/* One event under the lock: a look-up. A long string that it finds is held, except while calls are recorded,
+ * while many others are held, and if its value is kept. */
 cache_answer apcu_look(zend_string *key, time_t t, apcu_held *held, struct apcu_kept **kept);
 
-/* Lets a string go, outside of the lock. False where it was not held any more: what was read of it may be
- * of other rows. So it is where the cache was made anew. */
+/* Releases a string, outside of the lock. False if it was no longer held: what was read of it may belong
+ * to other rows. This happens when the cache was recreated. */
 bool apcu_let_go(const apcu_held *held);
 
 #endif

@@ -6,7 +6,7 @@
 #include "zend_constants.h"
 #include "zend_smart_str.h"
 
-/* The last byte of a string of the cache. That of a string is the zero which PHP has behind each. A stamped value has
+/* The last byte of a string of the cache. That of a string is the zero which PHP has after each. A stamped value has
  * text, from 0 to 7 zeros up to the next word, the stamp in a word, and the mark. */
 enum {
 	MARK_TEXT = 0,
@@ -21,7 +21,7 @@ enum {
 /* The most bytes of zeros, stamp and mark. */
 #define MOST_TAIL (sizeof(uint64_t) - 1 + APCU_TAIL)
 
-/* What other modules register, as APCu has it: they find the function by a constant. */
+/* Serializers that other modules register, as with APCu: they find the function by a constant. */
 typedef int (*serialize_t)(unsigned char **buf, size_t *len, const zval *value, void *config);
 typedef int (*unserialize_t)(zval *value, unsigned char *buf, size_t len, void *config);
 
@@ -82,7 +82,7 @@ zend_string *apcu_serializers_names(void)
 	return smart_str_extract(&names);
 }
 
-/* False, and an exception or nothing, where there is no text. */
+/* False, and an exception or nothing, if there is no text. */
 static bool write_text(smart_str *text, zval *value)
 {
 	php_serialize_data_t data;
@@ -150,7 +150,7 @@ uint64_t apcu_stamp_of(const uint8_t tail[APCU_TAIL])
 	return stamp;
 }
 
-/* What a value has behind `len` bytes of text; how many bytes that are. */
+/* What follows the `len` bytes of a value's text; returns its length. */
 static size_t write_tail(char *at, size_t len, char mark, bool is_stamped)
 {
 	if (!is_stamped) {
@@ -284,13 +284,13 @@ void apcu_value_free(apcu_value *value)
 	}
 }
 
-/* Bytes with a zero where their mark was. Those of `text` are used up with it where it becomes null. */
+/* Bytes with a zero where their mark was. Those of `text` are consumed with it if it becomes null. */
 static bool unpack_bytes(zval *out, char *bytes, size_t len, char mark, zend_string **text)
 {
 	switch (mark) {
 		case MARK_TEXT:
 			if (*text) {
-				/* There may have been room for more than came. */
+				/* There may have been room for more than was read. */
 				ZVAL_NEW_STR(out, ZSTR_LEN(*text) == len ? *text : zend_string_truncate(*text, len, 0));
 				*text = NULL;
 			} else {

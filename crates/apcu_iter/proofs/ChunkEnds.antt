@@ -1,4 +1,4 @@
--- Where a step of an iterator ends.
+-- The slot at which a step of an iterator ends.
 use Rattle.std.proofs.Common.{◌≡◌, ◌∙◌, ℕ, suc, ◌+◌, ◌-◌, ◌<◌, ◌≤◌, Bool, true, false, [], ◌++◌}
 use Rattle.std.proofs.Common.{length, refl, ap, arith, inl, inr, eq-or-lt_of_le}
 use Rattle.std.specs.Prelude.{nat_le, find, unwrap_or, Option}
@@ -30,11 +30,11 @@ end_over test slots from over =
     let none : slots - from ≡ 0 = omega (arith, over) in
     ap (λ n. unwrap_or (find test (range_with_len from n)) slots) none
 
--- there are so many items from a slot on to before another
+-- there are this many items from a slot on to before another
 abbrev pub has_many : Option Pattern → ℕ → Cache → ℕ → ℕ → ℕ → Bool
 has_many wanted t c from size upto = nat_le size (length (items_between wanted t c from upto))
 
--- A step that begins at the slot `from` goes on at the slot `at`: there are not so many items yet.
+-- A step that begins at the slot `from` continues at the slot `at`: there are not yet enough items.
 pub record Stepping (wanted : Option Pattern) (t : ℕ) (c : Cache) (from size at : ℕ) : Type 0 where
   pub low : from ≤ at
   pub few : length (items_between wanted t c from at) < size
@@ -77,7 +77,7 @@ step_on wanted t c from size at s low few = record {
   end = s.end ∙ end_skips (has_many wanted t c from size) c.conf.slots at low (not_yet wanted t c from size at s);
 }
 
--- with the items of this slot there are so many
+-- with the items of this slot there are enough
 pub step_ends : (wanted : Option Pattern) (t : ℕ) (c : Cache) (from size at : ℕ)
     → Stepping wanted t c from size at → at < c.conf.slots
     → size ≤ length (items_between wanted t c from (at + 1))

@@ -80,7 +80,8 @@ extents_sum (row ∷ rows) =
       extents_sum rows,
     )
 
--- the rows and the removed rows are no more than so many, and neither are the words of their blocks
+-- the rows and the removed rows are no more than this many, and neither are the words of their
+-- blocks
 pub record AreFew (n : ℕ) (rows removed : List Row) : Type 0 where
   pub count : length rows + length removed ≤ n
   pub words : sum_by size_of rows + sum_by size_of removed ≤ n
@@ -121,7 +122,7 @@ are_few e words aside s stand =
       most = stand.usable.words_most;
     }
 
--- so many removed rows were passed
+-- this many removed rows were passed
 pub removed_over : (s : Entries) (end passed : ℕ) → AreFew s.conf.words s.rows s.removed
     → end ≡ s.conf.words → end ≤ passed → drop passed s.removed ≡ []
 removed_over s end passed few is over =

@@ -104,7 +104,7 @@ no_more_sums sums small =
     (within (sums.words + 0)) sums.words (same_within sums.count small.count)
     (same_within sums.hits small.hits) (same_within sums.words small.words)
 
--- a row more, where it is chosen
+-- one more row, if it is chosen
 pub adds_one : (choice : Choice) (row : Row) (old new : Sums) → AreSmall old
     → new ≡ (if is_chosen choice row then with_rows old (row ∷ []) else old)
     → new ≡ with_rows old (filter (is_chosen choice) (row ∷ []))

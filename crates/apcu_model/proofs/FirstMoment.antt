@@ -55,7 +55,7 @@ placed_at_once held key graph c place fits is =
     fitting : nat_lt (most_of c.conf) n ≡ false
     fitting = false_from_ne_true (nat_lt (most_of c.conf) n) (λ t. omega (arith, ltb-true (most_of c.conf) n t, fits))
 
--- the old row of the key, where it is held
+-- the old row of the key, if it is held
 abbrev pub replaced_rows : List ℕ → List ℕ → List Row → List Row
 replaced_rows held key rows = dated 0 (filter (is_held held) (filter (has_key key) rows))
 

@@ -43,7 +43,7 @@ Sets (request.Inc key step ttl) k = key ≡ k
 Sets (request.Cas key expect set) k = key ≡ k
 Sets _ k = ⊥
 
--- the request deletes the row where it is there
+-- the request deletes the row if it exists
 abbrev pub deletes : Request → Row → Bool
 deletes (request.Delete key) row = has_key key row
 deletes (request.ChunkDelete wanted from size) row = key_matches wanted row.key
@@ -60,7 +60,7 @@ pub few_new : (r : Request) → is_shallow r ≡ true → most_new r ≤ 8
 few_new (request.Entry g) shallow = leb-true (length g.levels) most_levels shallow
 few_new _ shallow = omega arith
 
--- a row goes: its time is over, or the request deletes it
+-- a row is dropped: its ttl has expired, or the request deletes it
 pub record IsLeaving (r : Request) (t : ℕ) (c : Cache) (row : Row) : Type 0 where
   pub there : Contains c.rows row
   pub why : (is_expired c.conf t row || deletes r row) ≡ true

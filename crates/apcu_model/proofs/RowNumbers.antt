@@ -118,7 +118,7 @@ numbers_placed held key graph ttl t n c place num small = record { below = below
         let gone = expired_in c.conf t (slot_of c.conf key) c.rows in
         are_apart-with_row new (left_of gone c.rows) (are_apart-filter (λ row. not (is_among gone row)) c.rows num.keys)
 
--- the cache after at most so many insertions
+-- the cache after at most this many insertions
 pub record Grown (most : ℕ) (c c' : Cache) : Type 0 where
   pub numbers : Numbers c'
   pub next : c'.next_number ≤ c.next_number + most
@@ -156,7 +156,7 @@ sub_looked key t (Some row) c = record {
     same x true = record { number = refl; key = refl; place = refl; size = refl; ttl = refl; ctime = refl; scalar = refl }
     same x false = still x
 
--- an integer is set where one is
+-- an integer is set if there is one
 sub_set : (key : List ℕ) (n : ℤ) (t : ℕ) (c : Cache) (row : Row) → live_row key t c ≡ Some row → is_scalar row.graph ≡ true → are_apart c.rows ≡ true → Sub c (integer_set key n t c)
 sub_set key n t c row live scalar keys = record {
   from = sub_map c (with_integer_at key n t) (λ x there. same x there (has_key key x) refl);

@@ -15,7 +15,7 @@ use Rattle.apcu_model.specs.declared.conf.Conf.{Conf}
 use Rattle.seg_words.specs.Members.{Contains-filter, Contains-kept, filter_alike, filter_none, filter_then}
 use Rattle.apcu_model.specs.Rows.{are_apart, touched_at}
 
--- nobody holds anything
+-- nothing is held
 pub none_held : (rows : List Row) → filter (is_held []) rows ≡ []
 none_held [] = refl
 none_held (row ∷ rows) = none_held rows
@@ -42,7 +42,7 @@ left_in_order conf pass rows apart good =
     (λ row c. Contains-filter pass rows row (leaving_from conf (filter pass rows) row c))
     (λ row c is. leaving_there conf (filter pass rows) row good (Contains-kept pass rows row c is))
 
--- no row is left where all have gone
+-- no row is left if all were dropped
 pub left_none : (conf : Conf) (rows : List Row) → 2 ≤ conf.slots → left_of (leaving conf rows) rows ≡ []
 left_none conf rows good = filter_none (λ (row : Row). not (is_among (leaving conf rows) row)) rows (λ row c. ap not (among_there (leaving conf rows) row (leaving_there conf rows row good c)))
 

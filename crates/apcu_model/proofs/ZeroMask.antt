@@ -1,4 +1,4 @@
--- What holds where nobody copies a value meanwhile: under the mask 0, and so for the only worker.
+-- What holds if no worker copies a value meanwhile: under the mask 0, and so for the only worker.
 use Rattle.std.proofs.Common.{◌≡◌, ℕ, ◌<◌, ◌^◌, Bool, true, false, not, ◌&&◌, ◌||◌, ◌==◌, nat_lt, cond, List, [], ◌∷◌, ◌++◌, get_or, map, filter, refl, sym, ap, ◌∙◌, subst, inl, inr, arith}
 use Rattle.std.specs.Int.{bit_at}
 use Rattle.std.specs.List.{list_any, list_all, range_with_len}

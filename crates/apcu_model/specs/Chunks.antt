@@ -52,7 +52,7 @@ abbrev pub items_between : Option Pattern → ℕ → Cache → ℕ → ℕ → 
 items_between wanted t c from upto =
     flat_map (slot_items wanted t c) (range_with_len from (upto - from))
 
--- Where a step from a slot on ends, of at least this many items: as few slots as hold that many, or
+-- The end of a step from a slot on, of at least this many items: as few slots as hold that many, or
 -- all slots that are left. It is the first slot after them.
 abbrev pub chunk_end : Option Pattern → ℕ → Cache → ℕ → ℕ → ℕ
 chunk_end wanted t c from size =

@@ -67,7 +67,7 @@ cause_ends may_refuse s input out Pattern place reason c same = (c, same)
 cause_ends may_refuse s input out Differs place reason c same = absurd c
 cause_ends may_refuse s input out Bundle place reason c same = (c, same)
 
--- a cause that asks nothing of what makes regexes stands beside any
+-- a cause that does not depend on the maker of regexes is one with any
 refusable_for : (may_refuse : Bool → List ℕ → Type 0) (scripts : List (List Step)) → SomeRefusable refuses_none scripts → SomeRefusable may_refuse scripts
 refusable_for may_refuse scripts r = record {
   script = r.script;

@@ -29,7 +29,7 @@ map_is : (conf : Conf) (scripts : List (List Step)) (marks : List Mark) (texts :
     → map_text (cache_of core) ≡ map_text_after (played conf scripts marks)
 map_is conf scripts marks texts counts core words l = ap map_text l.cache ∙ sym (ap map_text_after l.is_played.plays)
 
--- a map stands there exactly where the cache was kept
+-- there is a map exactly if the cache was kept
 text_is : (conf : Conf) (scripts : List (List Step)) (marks : List Mark) (texts : List (List ℕ)) (counts : Counts) (left : Option Left) (rest : List ℕ) → IsPlayed conf scripts marks texts counts
     → IfSome left (λ l. IsLeftByPlay conf scripts marks texts counts l.core l.words) → rest ≡ printed_rest marks left → worker_texts 0 texts ++ rest ≡ played_text (is_some left) conf scripts marks
 text_is conf scripts marks texts counts None rest p all is =

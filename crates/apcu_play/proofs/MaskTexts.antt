@@ -40,7 +40,7 @@ mask_text-next mask n =
     zero_add : (n : ℕ) → 0 + n ≡ n
     zero_add n = omega arith
 
--- a worker of the mask is told
+-- a worker of the mask is printed
 pub mask_text-in : (mask n : ℕ) → is_in_mask mask n ≡ true → mask_text mask (n + 1) ≡ mask_text mask n ++ (codes " " ++ decimal n)
 mask_text-in mask n e =
     mask_text-next mask n ∙ ap (λ (l : List ℕ). mask_text mask n ++ l) (rw e (append-nil (worker_text n)))
@@ -50,7 +50,7 @@ pub mask_text-out : (mask n : ℕ) → is_in_mask mask n ≡ false → mask_text
 mask_text-out mask n e =
     mask_text-next mask n ∙ (ap (λ (l : List ℕ). mask_text mask n ++ l) (rw e refl) ∙ append-nil (mask_text mask n))
 
--- nobody is in the mask 0
+-- no worker is in the mask 0
 pub mask_text-zero : (n : ℕ) → mask_text 0 n ≡ []
 mask_text-zero zero = mask_text-none 0
 mask_text-zero (suc n) =

@@ -23,7 +23,7 @@ use Rattle.apcu_play.specs.Message.{script_message, bundle_message}
 use Rattle.apcu_play.specs.Run.{WritesAll, WritesPart, IsUnlessMemory, CompletesSeed, CompletesTask, Completes, TellsMessage, TellsRefusal, TellsUnloaded}
 use Rattle.apcu_play.proofs.InputOutcomes.{Spelled, completes}
 
--- a generated run that is not told to be too much is done, unless a write failed
+-- a generated run whose status is not `TooMany` is done, unless a write failed
 module _ (conf : Conf) (seed crew each : ℕ) (before after : Option (List ℕ)) (reads_before reads_after writes_before writes_after : ℕ) where
   pub record SeedEnded (status : Status) : Type 0 where
     pub few : status ≡ Done → generated_events crew each ≤ most_events
@@ -150,7 +150,7 @@ completes_if one bundles may_refuse (Some s) input out ending e =
     some_is_not_none : Some s ≡ None → ⊥
     some_is_not_none e = cc
 
--- what is told of a fault of the scripts, if the words ask for any
+-- what is printed of a fault of the scripts, if the words ask for any
 pub refused_if : (told : Option Settings) (input : Sourced) (ending : Ending) → IfSome told (λ s. ending.status ≡ Script → IsRefusedAt s.task input.before input.after ending.place ending.reason)
     → IfSome told (λ s. ending.status ≡ Script → IsRefused s.task input.before input.after)
 refused_if None input ending at = tt

@@ -1,7 +1,7 @@
 -- Steps that the walks of `src/block.rt` share. Assumes `Logic`.
 --     mark, mark_made, mark_had     the machine value of a deed, which has no bytes, and what its one field owns
 --     one, two, two_made     structs of one field and of two, and what a pair owns
---     held_in, held_out     what a deed owns is the block at an address, where there is one
+--     held_in, held_out     what a deed owns is the block at an address, if there is one
 use Rattle.std.proofs.Common.{◌≡◌, ℕ, ◌*◌, ◌^◌, ◌<◌, List, [], ◌∷◌, ◌++◌, length, refl, sym, subst}
 use seplogic.Ra.Ura.{Ura}
 use mir.Val.{Val, vstruct, vcons, vnil, of_list}
@@ -36,7 +36,7 @@ module _ (E : El) where
   abbrev pub Mark : RattleType
   Mark = Struct (shape (D-type.the_type (R E) (P E) E.al.g))
 
-  -- the block at p, where there is one
+  -- the block at p, if there is one
   abbrev pub Held : Hd E → ℕ → List (el_x E) → Ptr → ℕ → Fml
   Held a c xs p n = in_block p (owns_if (has_block c) (block_with_items (token E.al a) (R E) p n c xs))
 

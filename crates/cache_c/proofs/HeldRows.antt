@@ -146,7 +146,7 @@ seats_left ask a none left = record {
   seats = λ seat no. ap (λ (l : List ℕ). slice_index l seat) left.seats;
 }
 
--- a seat is let go
+-- a seat is released
 pub let_go : {old new : Cache} (seat : ℕ) → seat < 64 → length (seats_of old) ≡ 64 → new.core ≡ old.core → words_memory new ≡ words_memory old → cache_words new ≡ cache_words old → seats_of new ≡ slice_set (seats_of old) seat 0 → HasLetGo old new seat true
 let_go {old} {new} seat low all core memory words seats = record {
   memory = memory;

@@ -1,4 +1,4 @@
--- Walks along the lists of rows, and rows that are told one after the other.
+-- Walks along the lists of rows, and rows that are written one after the other.
 use Rattle.std.proofs.Common.{◌≡◌, ◌≢◌, ◌∙◌, ℕ, zero, suc, ◌+◌, ◌<◌, ◌≤◌, Bool, true, false, List, [], ◌∷◌, ◌++◌, length, take, drop, refl, sym, ap, subst, arith}
 use Rattle.std.specs.Prelude.{if◌then◌else◌, nat_lt, ◌==◌}
 use Rattle.std.proofs.lemmas.Bool.{false≢true}
@@ -87,7 +87,7 @@ none_past (r ∷ rows) zero m e low = absurd (cc e)
 none_past (r ∷ rows) (suc n) zero e low = absurd (omega (arith, low))
 none_past (r ∷ rows) (suc n) (suc m) e low = none_past rows n m e (omega (arith, low))
 
--- ---- rows that are told
+-- ---- rows that are written
 
 rows_more : (words : List ℕ) (slot : ℕ) (rows : List Row) (told : List ToldRow) (row : Row) (t : ToldRow) → AreRowsBy words slot rows told → IsRowBy words slot row t
     → AreRowsBy words slot (rows ++ row ∷ []) (told ++ t ∷ [])

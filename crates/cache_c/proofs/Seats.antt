@@ -210,13 +210,13 @@ words_inside words place m d n low =
     ∙ take-take n (m - d) (drop d (drop place words)) (omega (arith, low, most))
     ∙ ap (take n) (drop-drop d place words))
 
--- so many bytes take so many words
+-- the number of words that this many bytes take
 pub few_words : (count : ℕ) → count ≤ 8 * words_in count
 few_words count = omega arith
 
 -- ---- the image of a block
 
--- it lies in the words, where it has any
+-- it lies in the words, if it has any
 pub image_inside : (words : List ℕ) (at : ℕ) → 0 < at → 0 < length (held_image words at).words → (held_image words at).place + length (held_image words at).words ≤ length words
 image_inside words at some any =
     let is = image_words words at some in
@@ -278,7 +278,7 @@ named_set seats seat at x named =
       | inr there ↦ inr (and_from (ltb 0 x) (has x seats) p.0 there)
     ]
 
--- no seat is named where all are 0
+-- no seat is named if all are 0
 pub none_named : (n at : ℕ) → is_named (replicate n 0) at ≡ false
 none_named n at = false_from_ne_true (is_named (replicate n 0) at) (λ named.
     let p = and_parts (ltb 0 at) (has at (replicate n 0)) named in no n p.1 (ltb-true 0 at p.0))

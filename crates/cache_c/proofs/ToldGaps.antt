@@ -1,4 +1,4 @@
--- Gaps that are told one after the other.
+-- Gaps that are written one after the other.
 use Rattle.std.proofs.Common.{◌≡◌, ◌∙◌, ℕ, ◌+◌, ◌<◌, List, [], ◌∷◌, ◌++◌, length, take, map, refl, sym, ap, length-append}
 use Rattle.std.proofs.lemmas.List.{append_assoc, take_more_set, length-map}
 use Rattle.std.specs.List.{slice_set}
@@ -7,7 +7,7 @@ use Rattle.cache_info.proofs.GapRuns.{left_from}
 use Rattle.cache_c.specs.declared.counts.Gap.{Gap}
 use Rattle.cache_c.specs.Told.{gap_told}
 
--- the first of them are told
+-- the first of them are written
 pub prefix_told : (xs ys : List Gap) (es : List Extent) → xs ++ ys ≡ map gap_told es → xs ≡ map gap_told (take (length xs) es)
 prefix_told [] ys es e = refl
 prefix_told (x ∷ xs) ys [] e = absurd (cc e)

@@ -46,7 +46,7 @@ head_image {words} {windows} {head} {row} h = record {
   told = λ i low high. h.image_told i low (subst (λ (n : ℕ). i < head.image + n) (sym h.image_len) high);
 }
 
--- what is told of a row by its head and its value
+-- the numbers of a row by its head and its value
 abbrev pub told_by : ℕ → ℕ → Head → Answer → ToldRow
 told_by slot at head value = record {
   place = at;

@@ -36,7 +36,7 @@ pub struct Found {
     pub kind: u32,
     /// The place of a string's bytes.
     pub place: u32,
-    /// The number of an integer; 0 or 1 of a truth value.
+    /// The number of an integer; 0 or 1 of a boolean.
     pub number: i64,
     /// How many bytes a string has.
     pub len: u64,

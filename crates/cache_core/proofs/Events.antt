@@ -85,7 +85,7 @@ steps {g = g} {old} {mid} {new} {before} {between} {after} one two = record {
   rest = two.rest ∙ one.rest;
 }
 
--- no place is refused but those of removed rows, where none is
+-- only places of removed rows are refused, if none is
 pub none_removed : (aside : Aside) (removed : List Row) → ((b : ℕ) → has b aside.refused ≡ false) → AreRemoved aside removed
 none_removed aside removed unrefused = record { each = λ b h. absurd (false≢true (sym (unrefused b) ∙ h)) }
 
@@ -120,7 +120,7 @@ mapped_open windows old new f place number rows removed = record {
   ];
 }
 
--- so it is where one was used
+-- the same if one was used
 pub touched_open : (windows : List ℕ) (old new : Entries) (at t : ℕ) → new ≡ touched_in at t old → KeepsOpen windows old new
 touched_open windows old new at t is =
     mapped_open windows old new (touched_row at t) (λ row. place row (is_at at row)) (λ row. number row (is_at at row)) (ap (λ (x : Entries). x.rows) is) (ap (λ (x : Entries). x.removed) is)

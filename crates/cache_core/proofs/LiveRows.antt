@@ -32,7 +32,7 @@ not_live key t (row ∷ rows) h = go (has_key key row) refl h (not_live key t ro
     go true e q on = absurd (cc q)
     go false e q on = ap (λ b. cond (b && not (is_hard_expired t row)) (Some row) (found key t rows)) e ∙ on q
 
--- the row of the key is found unless its time is over
+-- the row of the key is found unless it has expired
 pub live_as : (key : List ℕ) (t : ℕ) (rows : List Row) (row : Row) → are_apart rows ≡ true → find (has_key key) rows ≡ Some row → found key t rows ≡ cond (not (is_hard_expired t row)) (Some row) None
 live_as key t [] row apart h = absurd (cc h)
 live_as key t (r ∷ rows) row apart h = go (has_key key r) refl h (live_as key t rows row parts.1)
@@ -75,7 +75,7 @@ found_old {key = key} {t = t} {c = c} {s = s} o same sound over =
       is_row = record { there = subst (λ rows. Contains rows o.row) same o.there; place = o.place; key_is = key_is key o.row has.1 };
     }
 
--- none is, where the time of that row is over
+-- none is, if that row has expired
 pub over_old : {key : List ℕ} {at : ℕ} {s : Entries} {words windows : List ℕ} → (t : ℕ) → (o : IsOld s key at) → IsSound s words windows
     → is_hard_expired t o.row ≡ true → found key t s.rows ≡ None
 over_old {key = key} {s = s} t o sound over =

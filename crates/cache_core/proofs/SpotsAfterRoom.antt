@@ -15,7 +15,7 @@ use Rattle.entry_slots.specs.Entries.{Entries, chain_of, found_place}
 use Rattle.entry_slots.specs.Spots.{IsSpotOf}
 use Rattle.cache_core.specs.Spots.{IsSpotIfAny, HaveSameRows}
 
--- where none was left out, all are there
+-- if none was left out, all are there
 all_left : (p : Row → Bool) (rows : List Row) → length (filter p rows) ≡ length rows → filter p rows ≡ rows
 all_left p [] h = refl
 all_left p (row ∷ rows) h = go (p row) refl (all_left p rows)

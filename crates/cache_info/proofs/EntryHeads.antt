@@ -1,4 +1,4 @@
--- What the first words of an entry say is what is told of its row.
+-- What the first words of an entry contain is what is returned about its row.
 use Rattle.std.proofs.Common.{◌≡◌, ℕ, List}
 use Rattle.apcu_model.specs.Cache.{Row}
 use Rattle.apcu_model.specs.Infos.{info_of_row}

@@ -1,4 +1,4 @@
--- The gaps beside live blocks, from the first one on.
+-- The gaps between live blocks, from the first one on.
 use Rattle.std.proofs.Common.{◌≡◌, ◌∙◌, inl, inr, ℕ, zero, suc, ◌+◌, ◌-◌, ◌<◌, ◌≤◌, ◌==◌, ◌&&◌, Bool}
 use Rattle.std.proofs.Common.{true, false, cond, List, [], ◌∷◌, filter, refl, sym, ap}
 use Rattle.std.proofs.Common.{subst, arith, Option, Some, None}

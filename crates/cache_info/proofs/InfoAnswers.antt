@@ -1,4 +1,4 @@
--- What is told, from what was read.
+-- What is returned, from what was read.
 use Rattle.std.proofs.Common.{◌≡◌, ◌∙◌, ℕ, true, false, List, [], ◌∷◌, ◌++◌, map, refl, sym, ap, append-nil}
 use Rattle.std.proofs.Common.{Option, Some, None, Bool, not, ◌&&◌, inl, inr, subst}
 use Rattle.std.proofs.lemmas.Bool.{eq-eqb, cases_Bool}

@@ -10,7 +10,7 @@ use Rattle.entry_slots.specs.Entries.{Entries, listed}
 use Rattle.entry_slots.specs.Standing.{Stands}
 use Rattle.entry_slots.specs.Facts.{OnlyClose, OnlyOpensAt}
 
--- the place is 0, or a row or a removed row stands there
+-- the place is 0, or that of a row or a removed row
 abbrev Opens : Entries → ℕ → Type 0
 Opens s at = (at ≡ 0) ⊎ (has_place at (listed s) ≡ true)
 

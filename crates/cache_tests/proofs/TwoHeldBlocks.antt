@@ -59,7 +59,7 @@ pub stands_with_two : ((e : EntrySlots) (words : List ℕ) (old new : Aside) (s 
 stands_with_two closed opened slots words aside stand held none mask first second f s =
     stands_begun closed opened slots words (entries slots) aside stand mask (slice_set (slice_set held 0 first) 1 second) (all_there slots held first second none f s)
 
--- where the words and what is beside them are kept, so is all that they stand for
+-- if the words and what is kept besides them are unchanged, so is all that they represent
 pub two_kept : {X : Type 0} (g : Ghosts X (List ℕ)) (core : Core) (old new : X) → Kept g old new → HoldsTwo g core old → HoldsTwo g core new
 two_kept g core old new kept two = record {
   stand = record { stand = rw (kept.words, kept.aside) two.stand.stand; whole = two.stand.whole };

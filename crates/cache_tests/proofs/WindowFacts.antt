@@ -36,7 +36,7 @@ is_at at x named =
       | inr later ↦ absurd (false≢true (ap (λ n. nat_lt 0 n) (sym (has_zero 63 x later)) ∙ parts.0))
     ]
 
--- an event begins that meets nobody, whatever the worker 0 held
+-- an event begins with an empty mask, whatever the worker 0 held
 pub free_begun : ((e : EntrySlots) (words : List ℕ) (old new : Aside) (s : Entries) → OnlyClose old new → Stands e words old s → Stands e words new s)
     → {X : Type 0} (g : Ghosts X (List ℕ)) (core : Core) (old one new : X) (at : ℕ)
     → g.words one ≡ g.words old → g.words new ≡ g.words one

@@ -32,7 +32,7 @@ unread most high t never = go (is_number most t && nat_le (digits_value 10 t) hi
         let s = both (nat_lt 0 (length t)) _ q.1 in
         absurd (never q.0 (ltb-true _ _ s.0) (leb-true _ _ s.1) (leb-true _ _ p.1))
 
--- the number that is read, where it is not too large
+-- the number that is read, if it is not too large
 abbrev up_to : ℕ → ℕ → Option ℕ
 up_to high n = cond (nat_le n high) (Some n) None
 

@@ -1,4 +1,4 @@
--- What is beside the words where no block is probed.
+-- What is kept besides the words if no block is probed.
 use Rattle.std.proofs.Common.{◌≡◌, Option, Some, None, refl, ◌∙◌}
 use Rattle.std.specs.Prelude.{IfSome, IfNone}
 use Rattle.seg_words.specs.declared.segment.WordsIn.{Ghosts}

@@ -173,7 +173,7 @@ same_count x y number cache = λ i. record { number = number i; cache = cache i 
 pub expected_is : {key : List ℕ} {t : ℕ} {c : Cache} {at : ℕ} {n : ℤ} (expect : ℤ) → IsCounter key t c at n → is_expected expect (live_row key t c) ≡ int_eq n expect
 expected_is expect k = ap (is_expected expect) k.live ∙ ap (is_integer expect) k.int
 
--- a counter that is new is never told as another value
+-- a new counter is never reported as another value
 pub begun_number : (step : ℤ) (a : StoreAnswer) → begun_answer step a ≡ NotInteger → ⊥
 begun_number step answers.Stored h = cc h
 begun_number step answers.TooLarge h = cc h

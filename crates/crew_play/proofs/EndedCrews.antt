@@ -39,7 +39,7 @@ get_some [] k h = absurd (omega (arith, h))
 get_some (x ∷ xs) zero h = (x, refl)
 get_some (x ∷ xs) (suc k) h = get_some xs k (omega (arith, h))
 
--- ---- who has ended
+-- ---- the workers that have ended
 
 pub among_at : (bs : List PassView) (k w : ℕ) (b : PassView) → slice_get bs k ≡ Some b → b.known.worker ≡ w → has_worker w (known_list bs) ≡ true
 among_at [] k w b h e = absurd (cc (h))
@@ -186,7 +186,7 @@ is_left law laws t conf workers scripts ended texts closed core words count all 
   stand = c.stand;
 }
 
--- where one is left
+-- if one is left
 pub any_left : OthersLaw → PlayLaws → (t : TableId) (conf : Conf) (workers : ℕ) (scripts : List (List Step)) (ended : List PassView) (texts : List (List ℕ)) (closed : Closed) (left : Option Left) → workers ≡ length scripts
     → AllEnd t conf scripts (length scripts) ended (map Ok texts) → IfSome left (λ l. IsClosedWhole conf workers ended closed l.core l.words)
     → IfSome left (λ l. IsLeftByPlay conf scripts closed.journal.marks texts closed.counts l.core l.words)

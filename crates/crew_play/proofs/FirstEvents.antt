@@ -62,7 +62,7 @@ one_marked w (e ∷ es) none = (whose (cases_Bool (e.worker == w)), one_marked w
 
 -- ---- one that learns of the end
 
--- where it has made no event, none of its events came before that end
+-- if it has made no event, none of its events came before that end
 pub none_before : (conf : Conf) (workers : ℕ) (p q e : PassView) → Learns conf workers p q e → p.known.own ≡ [] → events_of p.known.worker e.known.seen ≡ []
 none_before conf workers p q e l none =
     let own : events_of q.known.worker q.known.seen ≡ [] = l.all_own ∙ (l.own ∙ none) in
@@ -87,7 +87,7 @@ pub some_before_more : (n count : ℕ) (first : Option PassView) → suc n ≡ c
 some_before_more n count None is before one = tt
 some_before_more n count (Some b) is before one = ends_before_more n count b is before one
 
--- where it is the last one
+-- if it is the last one
 pub last_ends_first : (n count : ℕ) (front ended : List PassView) (e : PassView) → suc n ≡ count → length front ≡ n → ended ≡ front ++ e ∷ [] → EndsBefore n e → LastEndsFirst count ended
 last_ends_first n count front ended e is long more before k b here there = elim (get_more front e k b (subst (λ (l : List PassView). slice_get l k ≡ Some b) more there)) [
   | inl among ↦ absurd (omega (arith, is, long, here, slice_get_within front k b among))

@@ -33,7 +33,7 @@ get_mapped f [] k y h = absurd (cc (h))
 get_mapped f (x ∷ xs) zero y h = (x, cc (h))
 get_mapped f (x ∷ xs) (suc k) y h = get_mapped f xs k y h
 
--- the script of a worker is that of so many draws
+-- the script of a worker is that of this many draws
 pub record IsDrawn (worker calls : ℕ) (script : List Step) : Type 0 where
   pub draws : List Draw
   pub is : script ≡ steps_of_draws worker draws

@@ -95,7 +95,7 @@ one_more law t conf workers scripts count p q e others script before all h l end
   ];
 }
 
--- ---- who has made all calls
+-- ---- the workers that have made all calls
 
 pub others_made : {X E : Type 0} (others : Bool) (r : Result X E) → (others && is_ok r) ≡ true → others ≡ true
 others_made true r so = refl

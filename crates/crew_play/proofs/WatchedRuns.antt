@@ -38,7 +38,7 @@ use Rattle.crew_play.proofs.EndedCrews.{OthersLaw, PlayLaws, get_some, among_at,
 use Rattle.crew_play.proofs.LearnedEnds.{prefixes, none_besides}
 use Rattle.crew_play.proofs.WishCounts.{WishLaws, get_first, get_past, made_counted, observer_plays, plays_counted}
 
--- ---- who has ended, worker 0 last
+-- ---- the workers that have ended, worker 0 last
 
 -- the last one ended as worker 0
 first_ended : (t : TableId) (conf : Conf) (scripts : List (List Step)) (count workers : ℕ) (first end : PassView) (others : List PassView) (all : Bool) (numbers : List ℤ) → HaveMade t conf scripts count first others all → Observes conf workers first end numbers → HasEnded t 0 end
@@ -103,7 +103,7 @@ settled w b seen history own whole first rest all =
     let back : events_of w history ≡ events_of w seen ++ events_of w rest.0 = ap (events_of w) (sym rest.1) ∙ events-append w seen rest.0 in
     omega (arith, ap length whole, ap length all, ap length front, ap length back, length-append (events_of w b.known.seen) (events_of w first.0), length-append (events_of w seen) (events_of w rest.0))
 
--- ---- what is told
+-- ---- the summary
 
 -- numbers that are found from a place on
 found_there : (all ys : List Reply) (calls a n : ℕ) → length ys ≡ n → ((j : ℕ) (y : Reply) → slice_get ys j ≡ Some y → slice_get all (calls + (a + j)) ≡ Some y)

@@ -61,7 +61,7 @@ as_list wants all ws rs by count each = record {
       by (take k rs) ∙ (ap (λ n. slice_get all n) (length-take-le k rs few) ∙ each k w h);
 }
 
--- ---- who has yet to end
+-- ---- the workers that have yet to end
 
 wishes_counted : (worker : ℕ) (draws : List Draw) → length (wishes_of_draws worker draws) ≡ length draws
 wishes_counted worker draws = length-map draws _
@@ -113,7 +113,7 @@ observer_plays laws conf workers draws p b replies made goes =
     subst (λ (l : List Reply). HasPlayed conf (steps_of_draws 0 draws ++ counters_read) (map wish_in b.known.own) l) (sym goes.replies_are)
     (subst (λ (l : List Wish). HasPlayed conf (steps_of_draws 0 draws ++ counters_read) l (rs ++ more)) (sym goes.own) played)
 
--- ---- who has ended
+-- ---- the workers that have ended
 
 -- it made an event for each draw, and one to end
 pub plays_counted : WishLaws → (conf : Conf) (worker : ℕ) (draws : List Draw) (b : PassView) → PlaysAll conf (steps_of_draws worker draws) b → length b.known.own ≡ length draws + 1

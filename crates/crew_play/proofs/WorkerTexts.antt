@@ -14,7 +14,7 @@ items_taken texts next rest text all more is step pushed =
     ∙ (ap (λ (l : List (Result (List ℕ) PlayFault)). l ++ rest) (map-append Ok all (text ∷ []))
     ∙ (append_assoc (map Ok all) (Ok text ∷ []) rest ∙ (ap (λ (l : List (Result (List ℕ) PlayFault)). map Ok all ++ l) (sym step) ∙ is)))
 
--- what stands behind the first one stands there
+-- what follows the first one is there
 pub behind_first : {A : Type 0} (texts next rest : List A) (y : A) → ((x : A) → Contains next x → Contains texts x) → next ≡ y ∷ rest → (x : A) → Contains rest x → Contains texts x
 behind_first {A = A} texts next rest y behind step x there = behind x (subst (λ (l : List A). Contains l x) (sym step) (Contains-append_right (y ∷ []) rest x there))
 

@@ -81,7 +81,7 @@ told_from windows i other =
     let parts = and_parts (ltb 0 r.0) (eqb i (r.0 + PIN_COUNT)) r.2 in
     other r.0 (and_from (ltb 0 r.0) (has r.0 windows) parts.0 (has_there r.0 windows r.1)) (eqb-true i (r.0 + PIN_COUNT) parts.1))
 
--- each word of a live block is told, but for its pin count
+-- each word of a live block is told, except its pin count
 pub told_in : (sma : Sma) (ws : List ℕ) (aside : Aside) (e : Extent) (i : ℕ) → IsReady sma ws aside → Contains (live_blocks ws sma.bounds.from) e → e.place ≤ i → i < e.place + e.size → i ≢ e.place + PIN_COUNT → IsTold aside.windows i
 unfolding Apart
 told_in sma ws aside e i ready live low high other =

@@ -31,7 +31,7 @@ run_same ws ws' at run count same h =
     get_or-take n (drop at ws') i 0 few ∙ (get_or-drop at ws' i 0 ∙ (same (at + i) (omega arith) (omega arith) ∙ (sym (get_or-drop at ws i 0) ∙ sym (get_or-take n (drop at ws) i 0 few)))))
     ∙ h
 
--- the words of a row's block are as they were, but for the chain's
+-- the words of a row's block are unchanged, except the chain's
 pub record SameRow (ws ws' : List ℕ) (row : Row) : Type 0 where
   pub count : length ws' ≡ length ws
   pub same : (i : ℕ) → row.place ≤ i → i < row.place + row.size → i ≢ row.place + NEXT → slice_index ws' i ≡ slice_index ws i
@@ -39,7 +39,7 @@ pub record SameRow (ws ws' : List ℕ) (row : Row) : Type 0 where
 enough_is : (n size : ℕ) → size ≡ n + n % 2 → n ≤ size
 enough_is n size h = omega arith
 
--- so are they but for some words of the row's head
+-- the same except for some words of the row's head
 pub record SameBut (ws ws' : List ℕ) (row : Row) : Type 0 where
   pub count : length ws' ≡ length ws
   pub first : (k : ℕ) → k < MTIME → k ≢ NEXT → slice_index ws' (row.place + k) ≡ slice_index ws (row.place + k)

@@ -1,4 +1,4 @@
--- The entries that are kept beside the words.
+-- The entries that are kept outside the words.
 use Rattle.std.proofs.Common.{◌≡◌, ℕ, true, List, sym, ap, subst, ◌∙◌}
 use Rattle.seg_words.specs.Windows.{Aside}
 use Rattle.sma_blocks.specs.Live.{live_blocks}
@@ -9,7 +9,7 @@ use Rattle.entry_slots.specs.Entries.{Entries, blocks_of, listed}
 use Rattle.entry_slots.specs.Standing.{IsRowChain, AreUnexpired, Stands, entries}
 use Rattle.entry_slots.proofs.PresentRows.{HasEntryAt, HasRowAt}
 
--- what is kept of the slots, whatever entries are kept beside them
+-- what is kept of the slots, whatever entries are kept outside them
 pub restand : {e e' : EntrySlots} {words : List ℕ} {aside : Aside} {s : Entries} → Stands e words aside s → e'.sma ≡ e.sma → e'.removed ≡ e.removed → e'.next_number ≡ e.next_number → e'.count ≡ e.count → e'.limit ≡ e.limit → e'.soonest ≡ e.soonest → Stands e' words aside s
 restand {e} {e'} {words} {aside} {s} h sma removed number count limit soonest = record {
   chains = h.chains;

@@ -65,7 +65,7 @@ int_words : (n : ℤ) → image_of (kinds.Int n ∷ []) ≡ 2 ∷ cast_unsigned 
 unfolding image_of
 int_words n = refl
 
--- a run that stands there, word by word
+-- a run that is there, word by word
 run_from : (ws : List ℕ) (at : ℕ) (run : List ℕ) → at + length run ≤ length ws → ((i : ℕ) → i < length run → slice_index ws (at + i) ≡ get_or run i 0) → StandsAt ws at run
 run_from ws at run inside each =
     let long : length (take (length run) (drop at ws)) ≡ length run = omega (arith, length-take (length run) (drop at ws), length-drop at ws) in

@@ -15,7 +15,7 @@ use Rattle.apcu_model.specs.Cache.{Row}
 use Rattle.entry_slots.specs.declared.slots.EntrySlots.{EntrySlots}
 use Rattle.entry_slots.proofs.RowBlocks.{IsHome, room}
 
--- so many bytes of the words behind the head of the block at this place are the key
+-- the first bytes of the words after the head of the block at this place are the key
 pub record IsKeyAt (ws windows : List ℕ) (at : ℕ) (key : List ℕ) : Type 0 where
   pub back : take (length key) (bytes_of (drop (at + HEAD_WORDS) ws)) ≡ key
   pub inside : at + HEAD_WORDS + words_in (length key) ≤ length ws

@@ -20,7 +20,7 @@ use Rattle.entry_slots.proofs.RowBlocks.{room}
 use Rattle.entry_slots.proofs.Chains.{chain_first, home_chain}
 use Rattle.entry_slots.proofs.KeyWords.{key_of}
 
--- so many rows of the chain were passed, none with the key, and `at` begins the rest
+-- this many rows of the chain were passed, none with the key, and `at` begins the rest
 pub record Walk (ws key : List ℕ) (chain : List Row) (at passed : ℕ) : Type 0 where
   pub front : List Row
   pub back : List Row
@@ -66,7 +66,7 @@ walk_end {ws} {key} {chain} {at} {passed} h none places = go h.back h.split h.re
     go [] split rest = ap (list_any (has_key key)) (split ∙ append-nil h.front) ∙ h.none
     go (row ∷ back) split rest = absurd (places row (subst (λ c. Contains c row) (sym split) (Contains-append_right h.front (row ∷ back) row (Contains-first row back))) (sym rest.0 ∙ none))
 
--- so many rows were passed as the chain has
+-- as many rows were passed as the chain has
 pub walk_whole : {ws key : List ℕ} {chain : List Row} {at passed : ℕ} → Walk ws key chain at passed → length chain ≤ passed → list_any (has_key key) chain ≡ false
 walk_whole {ws} {key} {chain} {at} {passed} h all = go h.back h.split
   where

@@ -17,7 +17,7 @@ use Rattle.entry_slots.proofs.RowBlocks.{room}
 use Rattle.entry_slots.proofs.Chains.{AreHome}
 use Rattle.entry_slots.proofs.ChainCuts.{Spot, spot_after}
 
--- so many rows were passed, none of them at the target, and `link` names what follows
+-- this many rows were passed, none of them at the target, and `link` names what follows
 pub record Way (ws : List ℕ) (first : ℕ) (chain : List Row) (target link passed : ℕ) : Type 0 where
   pub front : List Row
   pub back : List Row

@@ -32,7 +32,8 @@ homes_removed h row c = home_removed row h c
 abbrev pub Follows : List Row → ℕ → Type 0
 Follows front link = ((front ≡ []) × (link ≡ 0)) ⊎ ((first : Row) × (rows : List Row) × (front ≡ first ∷ rows) × (link ≡ link_after (first.place + NEXT) rows))
 
--- so many removed rows were passed, none at the target; `named` begins the rest, and `link` names it
+-- this many removed rows were passed, none at the target; `named` begins the rest, and `link` names
+-- it
 pub record Path (ws : List ℕ) (removed : List Row) (target link named passed : ℕ) : Type 0 where
   pub front : List Row
   pub back : List Row

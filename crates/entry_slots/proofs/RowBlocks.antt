@@ -1,4 +1,4 @@
--- Where the blocks of rows are.
+-- The places of the blocks of rows.
 use Rattle.std.proofs.Common.{◌≡◌, ◌≢◌, inl, inr, ℕ, ◌+◌, ◌%◌, ◌<◌, ◌≤◌, List, ◌++◌, length, map, arith}
 use Rattle.std.proofs.lemmas.Bool.{eqb-true}
 use Rattle.std.specs.List.{Contains}
@@ -86,13 +86,13 @@ room {e = e} {ws = ws} {aside = aside} {row = row} h =
       told = λ i low high other. told_in e.sma ws aside (extent_of row) i h.ready h.live low high other;
     }
 
--- the row at a place where there is one
+-- the row at a place if there is one
 pub row_there : {e : EntrySlots} {ws : List ℕ} {aside : Aside} {at : ℕ} → HasEntryAt e ws aside at → (row : Row) × IsHome e ws aside row × (row.place ≡ at)
 row_there {at = at} h =
     let r = any_there (is_at at) (h.entries.rows ++ h.entries.removed) h.there in
     (r.0, home_listed r.0 h.stand r.1, eqb-true r.0.place at r.2)
 
--- the words before the key are told, but for the pin count
+-- the words before the key are told, except the pin count
 pub told_at : {e : EntrySlots} {ws : List ℕ} {aside : Aside} {row : Row} → IsHome e ws aside row → (at k : ℕ) → row.place ≡ at → k < HEAD_WORDS → k ≢ PIN_COUNT → IsTold aside.windows (at + k)
 told_at h at k e few other =
     let w = room h in

@@ -1,4 +1,4 @@
--- Rows that go from one list to another, and blocks that are given back.
+-- Rows that are moved from one list to another, and blocks that are freed.
 use Rattle.std.proofs.Common.{◌≡◌, ◌≢◌, ◌⊎◌, inl, inr, ℕ, ◌+◌, ◌<◌, ◌≤◌, ◌^◌, Bool, true, false, not, cond, eqb, List, [], ◌∷◌, ◌++◌, slice_index, slice_set, refl, sym, ap, ap₂, ◌∙◌, subst, arith}
 use Rattle.std.proofs.lemmas.Bool.{cases_eq, cases_Bool, eq-eqb, eqb-true, ne_eqb, not_from_false, not-true, false_from_ne_true, false≢true}
 use Rattle.std.proofs.lemmas.List.{append-nil}
@@ -189,7 +189,7 @@ module _ {e : EntrySlots} {ws : List ℕ} {aside : Aside} (s : Entries) (h : Sta
       relisted law s h (slice_set ws link next) (set_change h link next spot) (set_entry h link next spot law) (λ slot lt. chains_kept s h at link L word next slot (omega (arith, lt, h.from)))
       e.removed (without_place at s.removed) (only_at at s.removed ++ s.unlinked) (subst (λ rs. IsRowChain (slice_set ws link next) e.removed rs) (sym list) (removed_by_word s h at link L word next b.1 chain)) off_removed off_unlinked off_same
 
--- ---- a block is given back
+-- ---- a block is freed
 
 pub given_stands : Laws → {e : EntrySlots} {ws : List ℕ} {aside : Aside} (s : Entries) (h : Stands e ws aside s) (at : ℕ) (q : Row) → Contains s.unlinked q → q.place ≡ at → (sma' : Sma) (ws' : List ℕ)
     → live_blocks ws' e.sma.bounds.from ≡ without_block at (live_blocks ws e.sma.bounds.from) → SameBlocks ws ws' e.sma.bounds.from (without_block at (live_blocks ws e.sma.bounds.from)) → sma'.bounds ≡ e.sma.bounds → IsReady sma' ws' aside
@@ -285,7 +285,7 @@ only_gone at (row ∷ rows) = go (is_at at row) refl (only_gone at rows)
     go true y rest = simp y rest
     go false y rest = simp y rest
 
--- nothing is left of it after its block was given back
+-- nothing is left of it after its block was freed
 pub freed_list : (at : ℕ) (s : Entries) → without_place at (only_at at s.removed ++ s.unlinked) ≡ without_place at s.unlinked
 freed_list at s =
     filter-append (λ r. not (is_at at r)) (only_at at s.removed) s.unlinked ∙ ap (λ rs. rs ++ without_place at s.unlinked) (only_gone at s.removed)

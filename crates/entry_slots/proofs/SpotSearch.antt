@@ -27,7 +27,8 @@ use Rattle.entry_slots.proofs.ChainCuts.{chain_rest}
 pub chain_short : (s : Entries) (slot count passed : ℕ) → count ≡ length s.rows → count ≤ passed → length (chain_of s slot) ≤ passed
 chain_short s slot count passed e le = omega (arith, length-filter (is_in_slot s.conf slot) s.rows, count_by-le-length (is_in_slot s.conf slot) s.rows)
 
--- So many rows of the chain were passed, none with the key, and `at` begins the rest, which the word `link` names.
+-- This many rows of the chain were passed, none with the key, and `at` begins the rest, which the
+-- word `link` names.
 pub record Path (ws : List ℕ) (s : Entries) (slot : ℕ) (key : List ℕ) (t at link passed : ℕ) (stale : Bool) : Type 0 where
   pub front : List Row
   pub back : List Row
@@ -161,7 +162,7 @@ path_whole {s = s} {slot = slot} {passed = passed} h all = nothing_left h.front 
 
 -- ---- the rest of the chain
 
--- the walk goes on from a spot: at least so many rows were passed, none of them expired
+-- the walk continues from a spot: at least this many rows were passed, none of them expired
 pub record Rest (ws : List ℕ) (s : Entries) (slot t at passed : ℕ) : Type 0 where
   pub front : List Row
   pub back : List Row

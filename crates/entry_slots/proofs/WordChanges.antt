@@ -1,4 +1,4 @@
--- Changes of words that leave every block where it is.
+-- Changes of words that leave every block at its place.
 use Rattle.std.proofs.Common.{◌≡◌, ◌≢◌, ◌⊎◌, inl, inr, ℕ, ◌+◌, ◌<◌, ◌≤◌, true, List, length, slice_index, slice_set, refl, ap, ◌∙◌, arith}
 use Rattle.std.specs.List.{Contains}
 use Rattle.std.proofs.lemmas.List.{get_or-set_other, length-set}

@@ -77,8 +77,9 @@ impl EntrySlots {
 
     /// The number of words in the blocks of all rows. No block may be loose.
     ///
-    /// Blocks and gaps fill the words behind the slots, so these are the words that neither a gap
-    /// nor the block of a removed row has: the time depends on the removed rows alone.
+    /// Blocks and gaps fill the words after the slots, so these are the words that are in no gap
+    /// and no removed row: it takes time in proportion to the removed rows, however many rows there
+    /// are.
     pub fn row_words<S: WordsIn>(&self, seg: &mut S) -> u32
         requires stand { Stand S.WordsIn self.now seg.old }
         requires whole { IsWhole (entries self.now) }

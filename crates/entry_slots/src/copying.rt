@@ -14,8 +14,8 @@ use std::alloc::{AllocError, Global};
 use value_image::get_bytes;
 
 impl EntrySlots {
-    /// A copy of the key of the entry at a place, which has `len` bytes, as the entry's head says.
-    /// It fails only if memory is missing.
+    /// A copy of the key of the entry at a place, which has `len` bytes according to the entry's
+    /// head. Out of memory is the only error.
     pub fn copy_key<S: WordsIn>(
         &self,
         alloc: Global,

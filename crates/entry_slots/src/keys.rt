@@ -64,8 +64,8 @@ pub(crate) fn key_word(key: &[u8], i: u32) -> u64
     LittleEndian::read_u64(&key[key.len() - 8..]) >> (64 - 8 * rest.len())
 }
 
-// The word that contains byte `i` of the bytes from a place on. If that byte is not its first, it is
-// the word of the byte before, and is not loaded again.
+// The word that has byte `i` of those from a place on. Unless that byte is the first of a word, it
+// is the word of the byte before, and is not loaded again.
 fn word_of_byte<S: WordsIn>(seg: &mut S, at: u32, i: u32, word: u64) -> u64
     requires inside { at + i / 8 < length (S.words seg.old) }
     requires told { IsTold (S.aside seg.old).windows (at + i / 8) }
@@ -80,7 +80,7 @@ fn word_of_byte<S: WordsIn>(seg: &mut S, at: u32, i: u32, word: u64) -> u64
     }
 }
 
-// PHP's string hash of the key of `len` bytes that is at a place.
+// PHP's string hash of the key of `len` bytes that begins at a place.
 pub(crate) fn hash_at<S: WordsIn>(seg: &mut S, at: u32, len: u32) -> u64
     requires inside { at + words_in len ≤ length (S.words seg.old) }
     requires told { (i : ℕ) → at ≤ i → i < at + words_in len → IsTold (S.aside seg.old).windows i }

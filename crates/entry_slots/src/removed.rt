@@ -70,8 +70,8 @@ impl EntrySlots {
         }
     }
 
-    // The link of the removed list that names the row at `target`, or with 0 the last one; `None`
-    // if the list has no such row.
+    // The link of the removed list that names the row at `target`, or for 0 the last one; `None` if
+    // the list has no such row.
     fn removed_link<S: WordsIn>(&self, seg: &mut S, target: u32) -> Option<u32>
         requires stand { Stand S.WordsIn self.now seg.old }
         ensures some { IfSome result (λ link.

@@ -111,7 +111,7 @@ impl EntrySlots {
         }
     }
 
-    /// Whether a row of the chain is expired. The walk that found the spot is continued: the rows
+    /// Whether a row of the chain is expired. It continues the walk that found the spot: the rows
     /// before it are not read again. No row is read if none can be expired yet.
     pub fn has_expired<S: WordsIn>(&self, seg: &mut S, spot: Spot, limit: u32, t: u64) -> bool
         requires stand { Stand S.WordsIn self.now seg.old }

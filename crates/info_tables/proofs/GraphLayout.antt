@@ -1,4 +1,4 @@
--- Places that are told, one after the other, and where an image has them.
+-- Places of values, one after the other, and their offsets in an image.
 use Rattle.std.proofs.Common.{◌≡◌, ◌∙◌, ℕ, zero, suc, ◌+◌, ◌-◌, ◌*◌, ◌≤◌, ◌<◌, ◌^◌, List, [], ◌∷◌}
 use Rattle.std.proofs.Common.{◌++◌, length, refl, sym, ap, arith, length-append}
 use Rattle.std.proofs.Common.{map}

@@ -1,4 +1,4 @@
--- What is told is a graph.
+-- The values are graphs.
 use Rattle.std.proofs.Common.{◌≡◌, ◌∙◌, ℕ, zero, suc, ◌+◌, ◌≤◌, true, List}
 use Rattle.std.proofs.Common.{[], ◌∷◌, ◌++◌, length, map, Some, refl, sym, ap, subst}
 use Rattle.std.proofs.Common.{arith, eq-eqb, append-nil, length-append}
@@ -38,7 +38,7 @@ pub record IsFlat (kind : Kind) : Type 0 where
   pub other : (x : ℕ) → ¬ kind ≡ kinds.Same x
   pub backs : count_by is_back (children_of kind) ≡ 0
 
--- a value of so many levels, wherever it is told
+-- a value of this many levels, wherever it is
 pub record IsValue (depth : ℕ) (v : Told) : Type 0 where
   pub ends : (level place : ℕ) (before after : List Kind) → depth ≤ level
       → place ≡ length before + 1
@@ -254,7 +254,7 @@ graph_of depth v is low few = record {
   count = omega (arith, few, no_backs_in (v 1) (is.flat 1));
 }
 
--- a value of few levels can be told as a graph
+-- a value of few levels can be represented as a graph
 pub tellable : (depth : ℕ) (v : Told) → IsValue depth v → depth ≤ levels → IsTellable (v 1)
 tellable depth v is low = record {
   graph = graph_of depth v is low;

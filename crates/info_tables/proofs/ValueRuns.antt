@@ -1,4 +1,4 @@
--- Values that are told one after the other.
+-- Values that follow one another.
 use Rattle.std.proofs.Common.{◌≡◌, ◌∙◌, ℕ, zero, suc, ◌+◌, ◌*◌, List, [], ◌∷◌, ◌++◌, length, map}
 use Rattle.std.proofs.Common.{refl, sym, ap, ◌<◌, get_or, drop}
 use Rattle.std.proofs.Math.Seq.{drop-cons}

@@ -1,4 +1,4 @@
--- Masks that are legal by the windows beside the words.
+-- Masks that are legal by the windows that are kept besides the words.
 use Rattle.std.proofs.Common.{◌≡◌, ℕ, zero, suc, ◌+◌, inl, inr, ◌^◌, ◌<◌, ◌≤◌, ◌==◌, ◌&&◌, ◌||◌, Bool, true, false, not, List, Option, Some, None, refl, ap, sym, ◌∙◌, arith}
 use Rattle.std.specs.Prelude.{nat_lt, is_some, slice_index_or}
 use Rattle.std.specs.List.{list_all, range_with_len}
@@ -33,7 +33,7 @@ same_some : (o : Option Window) → is_some o ≡ is_some (window_number o)
 same_some None = refl
 same_some (Some w) = refl
 
--- the windows beside the words say the same as the history
+-- the windows that are kept besides the words are those of the history
 pub legal_alike : (m : Stage) (windows : List (Option Window)) (workers worker mask : ℕ) → mask < 2 ^ 64 → ((v : ℕ) → v < 64 → window_number (slice_index_or windows v None) ≡ window_of m v)
     → is_legal_by windows workers worker mask ≡ is_legal_mask workers worker m mask
 legal_alike m windows workers worker mask small numbers =

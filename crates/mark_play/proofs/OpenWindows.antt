@@ -69,7 +69,7 @@ held_same mask held new goes b = stays_held (event_begun mask held) new b goes (
 
 -- ---- words stand as the event begins
 
--- a place that is held for a worker of the mask is 0, or a row or a removed row stands there
+-- a place that is held for a worker of the mask is 0, or that of a row or a removed row
 abbrev pub OpensMet : Entries → ℕ → List ℕ → Type 0
 OpensMet s mask held = (v : ℕ) → v < length held → bit_at mask v ≡ 1 → slice_index held v ≢ 0 → has_place (slice_index held v) (listed s) ≡ true
 

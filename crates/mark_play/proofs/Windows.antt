@@ -49,7 +49,7 @@ own_of w t _ c l none = none
 pub window_own : (m : Stage) (e : Event) → window_of (after_event m e) e.worker ≡ window_number (window_by e.t e.request m.cache)
 window_own m e = own_of e.worker e.t e.request m.cache (filter (λ (w : ℕ × ℕ). not (w.0 == e.worker)) m.windows) (none_own e.worker m.windows)
 
--- ---- beside the words
+-- ---- besides the words
 
 -- all windows are as in the history, where the worker's is the new one
 pub numbers_after : (m : Stage) (e : Event) (windows : List (Option Window)) (o : Option Window) → length windows ≡ 64 → e.worker < 64 → o ≡ window_by e.t e.request m.cache

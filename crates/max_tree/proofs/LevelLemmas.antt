@@ -42,7 +42,7 @@ levels_join (suc above) count numbers tops some is paged are =
       subst (λ (n : ℕ). AreLevels n (pages_of count) (drop count (numbers ++ tops))) back (subst (λ (xs : List ℕ). AreLevels (suc above - 1) (pages_of count) xs) behind are),
     )
 
--- the first row is there, and as long as it is told
+-- the first row is there, and of the given length
 paged_room : (count : ℕ) (levels : List ℕ) → IsPaged (take count levels) (take (pages_of count) (drop count levels)) → (count ≤ length levels) × (PAGE < count) × (count < 2 ^ 32)
 paged_room count levels paged =
     let short = paged.short in

@@ -82,7 +82,7 @@ page_zero xs tops k i paged none low high =
     let top : get_or tops (i / PAGE) 0 ≡ 0 = ap (λ (j : ℕ). get_or tops j 0) same ∙ none in
     omega (arith, below_top xs tops paged.tops_are i)
 
--- after a write the top of its page is worked out anew
+-- after a write the top of its page is computed again
 pub set_paged : (xs tops : List ℕ) (p v top : ℕ) → IsPaged xs tops → p < length xs → top ≡ largest (page (set xs p v) (p / PAGE)) → IsPaged (set xs p v) (set tops (p / PAGE) top)
 set_paged xs tops p v top paged inside is =
     let short = paged.short in
@@ -105,7 +105,7 @@ set_paged xs tops p v top paged inside is =
       ];
     }
 
--- none passes where there is no position
+-- none passes if there is no position
 pub position_None : (p : ℕ → Bool) (xs : List ℕ) → position p xs ≡ None → (k : ℕ) → k < length xs → p (get_or xs k 0) ≡ false
 position_None p xs nowhere k inside = elim (cases_lt (position_or_len p xs) (length xs)) [
   | inl found ↦

@@ -72,7 +72,7 @@ halved x = elim (codes x) [
   ]
 ]
 
--- what is told of a pair in which the first number is 2 where both are there
+-- what is encoded for a pair in which the first number is 2 if both are nonzero
 pub record Largest (x : ℕ) : Type 0 where
   pub most : max (half x 0) (half x 1) ≡ x / 4 * 2
   pub none : half x 0 ≡ 0 → half x 1 ≡ 0 → x ≡ 0
@@ -344,7 +344,7 @@ second_there x is some other e =
       ]
     ]
 
--- the last pair before p's own one that is not 0: its second number is the last, where it is there
+-- the last pair before p's own one that is not 0: its second number is the last, if it is nonzero
 pub last_pair_seen : (xs view : List ℕ) (p k pair code : ℕ) → halves_of xs ≡ view → ((i : ℕ) → IsPair (get_or xs i 0)) → NoneOwn xs p → (k < p / 2) × (get_or xs k 0 ≢ 0) → ((j : ℕ) → k < j → j < p / 2 → get_or xs j 0 ≡ 0) → pair ≡ get_or xs k 0 → code ≡ min (pair % 4) 1 → IsLastBefore view p (Some (2 * k + code))
 last_pair_seen xs view p k pair code shown all own found zeros is code_is =
     subst (λ (ys : List ℕ). IsLastBefore ys p (Some (2 * k + code))) shown (elim (cases_eq (get_or xs k 0 % 4) 0) [

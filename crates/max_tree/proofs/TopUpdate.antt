@@ -14,8 +14,8 @@ own_page xs p =
     let same : get_or (page xs (p / PAGE)) (p % PAGE) 0 ≡ get_or xs p 0 = page_at xs (p / PAGE) (p % PAGE) (omega arith) ∙ ap (λ (n : ℕ). get_or xs n 0) place in
     omega (arith, same, largest_bound (page xs (p / PAGE)) (p % PAGE))
 
--- two rows differ at p alone: a page's largest number is at most m in the one where it is in the
--- other and the number at p is
+-- two rows differ only at p: a page's largest number is at most m in the one if it is in the other
+-- and the number at p is
 pub page_least : (xs ys : List ℕ) (k p m : ℕ) → ((i : ℕ) → i ≢ p → get_or ys i 0 ≡ get_or xs i 0) → largest (page xs k) ≤ m → get_or ys p 0 ≤ m → largest (page ys k) ≤ m
 page_least xs ys k p m same before here = largest_least (page ys k) m each
   where

@@ -35,7 +35,7 @@ words_join (suc above) count words rest some is summed are =
       subst (λ (n : ℕ). AreWords n (words_of count) (drop count (words ++ rest))) back (subst (λ (xs : List ℕ). AreWords (suc above - 1) (words_of count) xs) behind are),
     )
 
--- the first row is there, and as long as it is told
+-- the first row is there, and of the given length
 pub summed_room : (count : ℕ) (words : List ℕ) → IsSummed (take count words) (take (words_of count) (drop count words)) → (count ≤ length words) × (1 < count) × (count < 2 ^ 32)
 summed_room count words summed =
     let short = summed.short in

@@ -116,7 +116,7 @@ can_attach g (p ∷ outer) (Some key) d =
     let takes = takes_key g p outer key o.0 o.1 o.2 d.waiting in
     record { kind = o.0; there = o.1; room = omega (arith, children_few g p o.0 o.1, d.members, d.count); named = takes.named }
 
--- where there is no place, no member is added and no key waits
+-- if there is no place, no member is added and no key waits
 pub attached_nothing : (cs : List ℕ) (key : Option Key) (c : Child) → attached [] cs key c ≡ []
 attached_nothing [] key c = refl
 attached_nothing (p ∷ outer) None c = refl

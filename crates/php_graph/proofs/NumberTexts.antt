@@ -1,4 +1,4 @@
--- A text gives an integer exactly where it is what the integer is written as.
+-- A text gives an integer exactly if it is what the integer is written as.
 use Rattle.std.proofs.Common.{◌≡◌, ℕ, suc, ◌-◌, ◌<◌, ◌≤◌, ◌^◌, true, false, cond, eqb, List, [], ◌∷◌, length, get_or, Some, refl, sym, ap, subst, ◌∙◌, arith, inl, inr, rules}
 use Rattle.std.specs.Prelude.{ℤ, pos, negsuc, FitsSigned, ◌&&◌, nat_lt, nat_le}
 use Rattle.std.specs.Int.{w64}

@@ -1,4 +1,4 @@
--- Where each worker has its pass, and who copies, after the views have changed.
+-- The place of each worker's pass, and the workers that copy, after the views have changed.
 use Rattle.std.proofs.Common.{◌≡◌, ◌≢◌, ℕ, zero, suc, ◌+◌, ◌<◌, ◌||◌, Bool, true, false, cond, List, [], ◌∷◌, ◌++◌, length, set, refl, ap, sym, ◌∙◌, subst, arith, length-set}
 use Rattle.std.proofs.lemmas.Bool.{false≢true, eqb-true}
 use native.Mathlib.Decide.{ℕ_discrete}
@@ -70,7 +70,7 @@ placed_release b place views id c at all w made hand closed = go (ℕ_discrete (
         )
     go (no apart) = let f = all w made hand closed in (f.0, set_else views id (place w) (Idle c.known) apart ∙ f.1, f.2)
 
--- who copies, by the workers and by the views
+-- the workers that copy, by the workers and by the views
 abbrev pub SameCopies : List ℕ → List View → Type 0
 SameCopies copying views = (i : ℕ) → pins_on i copying ≡ pins_on i (copied_blocks views)
 

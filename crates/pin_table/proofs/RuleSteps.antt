@@ -57,7 +57,7 @@ looks slots d i s rule count at fits = let r = steps.looks slots d i s rule.carr
 pub reads : (slots : ℕ) (d : WriterState) (i : ℕ) → Allows {S = ℕ} {V = View} IsRuled slots 0 (Writer d, []) i (λ n. n) (ReadsTold (step slots i 0 0 none) (Writer d, []))
 reads slots d i s rule count at fits = let r = steps.reads slots d i s rule.carried count at fits in (r.0, r.1, r.2, rule_of _ _ r.3, r.4)
 
--- the writer stores a word on which nobody relies that copies
+-- the writer stores a word on which no worker that copies relies
 pub writes : (slots : ℕ) (d : WriterState) (i x : ℕ) → i < length d.words → Outside d i → Allows {S = ℕ} {V = View} IsRuled slots 0 (Writer d, []) i (λ _. x) (λ _. Writes (step slots i x 0 none) (Writer d, []) x)
 writes slots d i x less out s rule count at fits = let r = steps.writes slots d i x less out s rule.carried count at fits in (r.0, r.1, r.2, rule_of _ _ r.3, r.4)
 
@@ -79,11 +79,11 @@ pub copies_out : (d : WriterState) (e : Event) (p : Known) → d.log.hand ≡ So
     → Splits {S = ℕ} {V = View} IsRuled 0 (Writer d) (Writer (copied d e)) (Copying (reader_after d e))
 copies_out d e p inhand same fetch some_left some_block s rule at = rule_of _ _ (cuts.pins_out d e p inhand same fetch some_left some_block s rule.carried at)
 
--- who copies loads a word of its image
+-- a worker that copies loads a word of its image
 pub copies : (slots id : ℕ) (c : Reader) (i : ℕ) → c.first ≤ i → i < c.first + length c.content → Allows {S = ℕ} {V = View} IsRuled slots id (Copying c, []) i (λ n. n) (Copies (step slots i 0 0 none) (Copying c, []))
 copies slots id c i lo hi s rule count at fits = let r = more.copies slots id c i lo hi s rule.carried count at fits in (r.0, r.1, r.2, rule_of _ _ r.3, r.4)
 
--- who copies releases its block
+-- a worker that copies releases its block
 pub releases : (slots id : ℕ) (c : Reader) → Allows {S = ℕ} {V = View} IsRuled slots id (Copying c, []) (c.block + PIN_COUNT) (λ n. (n + (18446744073709551616 - 1)) % 18446744073709551616) (Releases (step slots (c.block + PIN_COUNT) 1 0 none) (Copying c, []))
 releases slots id c s rule count at fits = let r = more.releases slots id c s rule.carried count at fits in (r.0, r.1, r.2, rule_of _ _ r.3, r.4)
 

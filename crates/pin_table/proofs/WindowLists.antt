@@ -236,7 +236,8 @@ range_index l m n i h = get_or-take n (drop m l) i 0 h ∙ get_or-drop m l i 0
 pub unnamed_closed : (at : ℕ) (ws : List ℕ) → is_named (closed_on at ws) at ≡ false
 unnamed_closed at ws = not_named (closed_on at ws) at (λ v h pos. (closed_back at ws v at h pos).1 refl)
 
--- where nothing is being pinned, what is told beside the windows is told beside all blocks that are named
+-- if nothing is being pinned, a word that is told with these windows is told with all blocks that
+-- are named
 pub told_with : (pinning : ℕ) (ws : List ℕ) (i : ℕ) → pinning ≡ 0 → IsTold ws i → IsTold (pinning ∷ ws) i
 told_with pinning ws i nothing told = subst (λ n. IsTold (n ∷ ws) i) (sym nothing) told
 

@@ -21,7 +21,7 @@ use Rattle.pin_table.specs.Order.{LogInOrder, StateInOrder, ReaderInOrder}
 use Rattle.pin_table.proofs.WindowLists.{named_there, differs, unlike, alike, at_less, at_there, same_there, closed_back, closed_keeps, length-closed, holders_bit, held_bit, or_bit, pins_none, range_set}
 use Rattle.pin_table.proofs.EventLogs.{fetched_after, fetched_nothing}
 
--- nobody relies on the word i
+-- no worker relies on the word i
 abbrev pub Outside : WriterState → ℕ → Type 0
 Outside d i = (j at : ℕ) → get_elem? (named_blocks d) j ≡ some at → 0 < at → IsApart d.words at i
 

@@ -68,7 +68,7 @@ begun_counters times = count_by (λ i. nat_lt 0 (times i)) (range_with_len 0 8)
 abbrev pub counter_value : ℕ → ℕ → Option (List Kind)
 counter_value times sum = if times == 0 then None else Some (kinds.Int (pos sum) ∷ [])
 
--- what holds after so many stores, and so many steps of each counter
+-- what holds after this many stores, and this many steps of each counter
 pub record Good (conf : Conf) (names : List (List ℕ)) (c : Cache) (stores : ℕ) (times sums : ℕ → ℕ) : Type 0 where
   pub laid : Laid conf names c
   pub expunges : c.expunges ≡ 0
@@ -125,7 +125,7 @@ good_looked conf names key (Some row) c s t u g = record {
 
 -- ---- an insertion
 
--- of so many stores and steps at most, so that no count comes to its end
+-- of at most this many stores and steps, so that no counter reaches its maximum
 pub record IsShort (s : ℕ) (u : ℕ → ℕ) : Type 0 where
   pub stores : s < 2 ^ 62
   pub sums : (i : ℕ) → u i < 2 ^ 62

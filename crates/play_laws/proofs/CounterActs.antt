@@ -36,7 +36,7 @@ stepped_times n t i = t i + cond (n == i) 1 0
 abbrev pub stepped_sums : ℕ → ℕ → (ℕ → ℕ) → ℕ → ℕ
 stepped_sums n step u i = u i + cond (n == i) step 0
 
--- one counter more where the counter was not begun, and as many as before where it was
+-- one more counter if the counter was not created before, and as many as before if it was
 count_one_more : (p q : ℕ → Bool) (n from len : ℕ) → from ≤ n → n < from + len → p n ≡ false → q n ≡ true → ((i : ℕ) → (i ≡ n → ⊥) → q i ≡ p i) → count_by q (range_with_len from len) ≡ count_by p (range_with_len from len) + 1
 count_one_more p q n from zero low high a b others = absurd (omega (arith, low, high))
 count_one_more p q n from (suc len) low high a b others = elim (cases_Bool (from == n)) [

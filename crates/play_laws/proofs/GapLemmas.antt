@@ -116,7 +116,7 @@ in_one to a n within =
     let more : (q + 1) * to ≡ q * to + to = ap (λ m. m * to) next ∙ nat.suc-mul q to in
     whole_below to a n (omega (arith, more, within))
 
--- so many small blocks leave room for one more in one segment
+-- this many small blocks leave room for one more in one segment
 pub gap_there : (from to n pieces : ℕ) (extents : List Extent) → AreSmall extents → from % 2 ≡ 0 → n ≤ 80 → 2 * length extents < pieces → from + 80 * pieces ≤ to → is_some (first_fit from to to n extents) ≡ true
 gap_there from to n pieces extents small even short few room =
     let m = missing (λ i. not (is_free (piece from i) 80 extents)) (range_with_len 0 pieces) (omega (arith, few, pieces_met from pieces extents small, length-range_with_len 0 pieces)) in

@@ -185,7 +185,7 @@ told_by conf scripts w script at p q (mark ∷ marks) rs had is =
     go true None wished later is = absurd (cc is)
     go true (Some wish) wished later is = goes_on wish wished (λ now had_now. later wish now had_now is)
 
--- nobody was answered yet
+-- no worker has a reply yet
 none_yet : (scripts : List (List Step)) (w : ℕ) (script : List Step) → slice_get scripts w ≡ Some script → slice_get (map {A = List Step} {B = List Reply} (λ script. []) scripts) w ≡ Some []
 none_yet [] w script at = absurd cc
 none_yet (s ∷ scripts) zero script at = refl

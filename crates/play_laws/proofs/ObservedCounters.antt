@@ -1,4 +1,4 @@
--- What the observer finds, and what is told in the end.
+-- What the observer finds, and the summary.
 use Rattle.std.proofs.Common.{◌≡◌, ◌⊎◌, inl, inr, ℕ, zero, suc, ◌+◌, ◌<◌, ◌≤◌, cond, List, [], ◌∷◌, ◌++◌, length, map, Option, Some, None, slice_get, append_assoc, refl, sym, ap, ◌∙◌, subst, arith}
 use Rattle.std.specs.Prelude.{◌==◌, option_map, unwrap_or, slice_set, sum_by}
 use Rattle.std.specs.List.{AllByRecursion, range_with_len}
@@ -114,7 +114,7 @@ pub record Watched (conf : Conf) (workers : ℕ) (first : List Act) (others : Li
   pub seen : (i : ℕ) (reply : Reply) → i < 8 → slice_get (replies_of p 0) (length first + i) ≡ Some reply
       → reply ≡ found_value (counter_value (total (times_in i) (acts_of (watched_bodies first others))) (total (sums_in i) (acts_of (watched_bodies first others))))
 
--- the workers' own acts are so many
+-- the number of the workers' own acts
 pub record AreEven (first : List Act) (others : List (List Act)) : Type 0 where
   pub each : (worker : ℕ) (acts : List Act) → slice_get (map ended others) worker ≡ Some acts → length acts ≡ length first + 1
 
@@ -167,7 +167,7 @@ watched_mark conf workers first others before p mark act s even last at w = reco
     due : ℕ → Reply
     due i = found_value (counter_value (total (times_in i) lists) (total (sums_in i) lists))
 
-    -- the look is made where all is counted
+    -- the look is made when all is counted
     new_reply : (i : ℕ) → i < 8 → 0 ≡ mark.worker → length (replies_of p mark.worker) ≡ length first + i → reply ≡ due i
     new_reply i h zeroth k =
         let first_count : length (replies_of p 0) ≡ length first + i = subst (λ v. length (replies_of p v) ≡ length first + i) (sym zeroth) k in

@@ -100,7 +100,7 @@ like_looked law P key t (Some row) c = record {
     same x true = record { number = refl; key = refl; counter = refl; value = λ own. refl }
     same x false = record { number = refl; key = refl; counter = refl; value = λ own. refl }
 
--- an integer is set where one is, under a key that is not of P
+-- an integer is set if there is one, under a key that is not of P
 like_set : RowsStayApart → (P : List ℕ → Type 0) (key : List ℕ) (n was : ℤ) (t : ℕ) (c : Cache) (row : Row) → (P key → ⊥) → live_row key t c ≡ Some row → integer_in row.graph ≡ Some was → Sound c → Like P c (integer_set key n t c)
 like_set law P key n was t c row other live is sound = record {
   shape = refl;
@@ -122,7 +122,7 @@ like_set law P key n was t c row other live is sound = record {
 
 -- ---- rows come
 
--- after at most so many insertions: the cache is sound, and each row that is not new is as it was
+-- after at most this many insertions: the cache is sound, and each row that is not new is unchanged
 pub record Grown (P : List ℕ → Type 0) (most : ℕ) (c c' : Cache) : Type 0 where
   pub shape : c'.conf ≡ c.conf
   pub sound : Sound c'

@@ -28,7 +28,7 @@ drawn_in workers r = go (r % 4 == 3) (r % 4 == 2) (r / 4) (r / 32) (r / 64)
     go false true x y z = (omega arith, omega arith)
     go false false x y z = tt
 
--- so many draws of each worker, all in their ranges
+-- this many draws of each worker, all in their ranges
 abbrev pub AreDrawn : ℕ → List (List Draw) → Type 0
 AreDrawn calls draws = AllByRecursion (λ own. (length own ≡ calls) × AllByRecursion IsDraw own) draws
 

@@ -144,7 +144,7 @@ inserts_so conf names held key graph c roomy most laid few short = go (some_of (
     go : (place : ℕ) × (gap_of first n ≡ Some place) → (place : ℕ) × (gap_of first n ≡ Some place) × (inserted held key graph 0 false 0 c ≡ put_in held key graph 0 0 n first (Some place))
     go p = (p.0, p.1, placed_at_once held key graph c p.0 fits p.1)
 
--- the words of a gap meet no row's block: so no row stands there
+-- the words of a gap overlap no row's block: so no row is there
 free_place : (place n : ℕ) (extents : List Extent) → 0 < n → is_free place n extents ≡ true → (e : Extent) → Contains extents e → 0 < e.size → (e.place == place) ≡ false
 free_place place n [] some free e h pos = absurd (none_in_nil e h)
 free_place place n (x ∷ extents) some free e h pos =

@@ -40,7 +40,7 @@ bytes-append (x ∷ xs) ys h k =
     let parts = and_parts (nat_le x 255) (are_bytes xs) h in
     and_from (nat_le x 255) (are_bytes (xs ++ ys)) parts.0 (bytes-append xs ys parts.1 k)
 
--- two pools have one pattern only where they are one
+-- two pools have one pattern only if they are the same
 pub same_pattern : (name other : List ℕ) (wanted : Option Pattern) → is_good_name name ≡ true → is_good_name other ≡ true → is_pattern_of name wanted ≡ true → is_pattern_of other wanted ≡ true → other ≡ name
 same_pattern name other wanted good fine mine theirs =
     let key = pool_key name (97 ∷ []) in
@@ -92,7 +92,7 @@ same_name : (name : List ℕ) (pool : Option (List ℕ)) → is_this_pool name p
 same_name name None h = absurd (false≢true h)
 same_name name (Some other) h = ap Some ((bytes_eq-Decides other name).0 h)
 
--- a call of the pool asked it exactly where it has the pool's form
+-- a call of the pool made it exactly if it has the pool's form
 whose : (name : List ℕ) (pool : Option (List ℕ)) (r : Request) → is_good_name name ≡ true → HasPoolForm pool r → (is_this_pool name pool || not (list_any (holds_text (braced name)) (named_keys r))) ≡ true → (is_some pool || not (is_deleting_walk r)) ≡ true
     → is_this_pool name pool ≡ is_of_pool name r
 whose name pool r good tied untouched walks = go (is_this_pool name pool) refl

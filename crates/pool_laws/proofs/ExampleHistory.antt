@@ -1,4 +1,4 @@
--- A history in which a pool is left alone, beside another pool and other keys.
+-- A history in which a pool is left alone, with another pool and other keys in the cache.
 use Rattle.std.proofs.Common.{◌≡◌, ℕ, true, false, List, [], ◌∷◌, codes, refl}
 use Rattle.php_graph.specs.declared.kind.Kind.{Kind}
 use Rattle.php_graph.specs.declared.kind.Kind.TheVariants as kinds

@@ -14,7 +14,7 @@ use Rattle.seg_words.specs.Members.{count-cons, filter_then, any_there, filter_a
 abbrev pub has_one : List ℕ → List (List ℕ) → Bool
 has_one key keys = list_any (λ k. bytes_eq k key) keys
 
--- no key stands there twice
+-- no key occurs twice
 abbrev pub differ : List (List ℕ) → Bool
 differ [] = true
 differ (key ∷ keys) = not (has_one key keys) && differ keys
@@ -63,7 +63,7 @@ differ_others gone (x ∷ xs) h =
           (not_from_false (has_one x (others gone xs)) (still_there x gone xs apart ∙ not-true (has_one x xs) parts.0)) (differ_others gone xs parts.1))
     ]
 
--- one that stands there is counted once
+-- one that occurs is counted once
 counted_once : (q : List ℕ → Bool) (key : List ℕ) (keys : List (List ℕ)) → differ keys ≡ true → has_one key keys ≡ true → count_by q keys ≡ cond (q key) 1 0 + count_by q (others key keys)
 counted_once q key [] h there = absurd (false≢true there)
 counted_once q key (x ∷ xs) h there =
@@ -145,7 +145,7 @@ module _ {X : Type 0} (view : X → List ℕ) (test : X → Bool) where
           let none : cond {A = ℕ} (test x && q (view x)) 1 0 ≡ 0 = ap (λ b. cond {A = ℕ} (b && q (view x)) 1 0) is in
           omega (arith, count-cons (λ x. test x && q (view x)) x xs, none, later)
 
--- some passes exactly where one is found
+-- some passes exactly if one is found
 pub any_found : {X : Type 0} (p : X → Bool) (xs : List X) → list_any p xs ≡ is_some (find p xs)
 any_found p [] = refl
 any_found p (x ∷ xs) = go (p x) (any_found p xs)

@@ -61,7 +61,7 @@ some_if : (b : Bool) (t : Trace) → is_some (cond b (Some t) None) ≡ b
 some_if true t = refl
 some_if false t = refl
 
--- over the places from i on, of which so many are left
+-- over the places from i on, of which this many are left
 places : (at : Rest) (text hay : List ℕ) → ((i : ℕ) → is_some (at i) ≡ starts_with nat_eq (drop i hay) text) → (bytes : List ℕ) (n i : ℕ) → n ≡ length bytes + 1 → drop i hay ≡ bytes
     → is_some (first_from at n i) ≡ holds_text text bytes
 unfolding first_from

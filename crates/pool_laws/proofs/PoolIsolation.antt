@@ -267,7 +267,7 @@ none_before name t m (e ∷ es) c =
     let later = none_before name (order_end e t) (after_event m e) es (calm_later name t (order_end e t) m e es c (order_later t e es c.in_order)) in
     (any_step name (held_places m e.mask) e.t e.request m.cache (fits name t m e es c)).calm later
 
--- the map beside the cache at a stage
+-- the map compared with the cache at a stage
 record Beside (name : List ℕ) (conf : Conf) (t : ℕ) (m : List Entry) (s : Stage) : Type 0 where
   tame : are_tame name s.cache.rows ≡ true
   agrees : Agrees name t m s.cache

@@ -1,4 +1,5 @@
--- A pool's map beside the cache: what its own requests are answered, and that the two go on alike.
+-- A pool's map compared with the cache: the replies to its own requests, and that the two stay
+-- alike.
 use Rattle.std.proofs.Common.{◌≡◌, inl, inr, ℕ, ◌+◌, ◌≤◌, ◌==◌, ◌&&◌, ◌||◌, Bool, true, false, not, cond, if◌then◌else◌, List, length, map, filter, Option, Some, None, option_map, is_some, refl, sym, ap, ap₂, ◌∙◌, subst, arith}
 use Rattle.std.specs.Prelude.{find, nat_le, nat_lt}
 use Rattle.std.specs.List.{list_all}

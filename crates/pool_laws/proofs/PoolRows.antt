@@ -56,7 +56,7 @@ is_key key row h = (bytes_eq-Decides row.key key).1 h
 
 -- ---- moments
 
--- a row whose time is over stays so
+-- an expired row stays expired
 pub stays_expired : (t s : ℕ) (row : Row) → t ≤ s → is_hard_expired t row ≡ true → is_hard_expired s row ≡ true
 stays_expired t s row le h =
     let parts = and_parts (nat_lt 0 row.ttl) (nat_lt (row.ctime + row.ttl) t) h in
@@ -69,7 +69,7 @@ was_live t s key row le h =
     let live = not-true (is_hard_expired s row) (and_parts (has_key key row) (not (is_hard_expired s row)) h).1 in
     false_from_ne_true (is_hard_expired t row) (λ e. false≢true (sym live ∙ stays_expired t s row le e))
 
--- without a limit of the cache's own, expired is what is over
+-- without a ttl of the cache's own, expired is what has passed its own ttl
 pub not_expired : (conf : Conf) (t : ℕ) (row : Row) → conf.ttl ≡ 0 → is_hard_expired t row ≡ false → is_expired conf t row ≡ false
 not_expired conf t row none live =
     let zero_lt : nat_lt 0 conf.ttl ≡ false = le-ltb 0 conf.ttl (omega (arith, none)) in

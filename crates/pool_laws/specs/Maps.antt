@@ -49,7 +49,7 @@ abbrev pub there_between : ℕ → ℕ → ℕ → ℕ → List Entry → ℕ
 there_between slots from upto t m =
     count_by (λ (e : Entry). is_there t e && is_between slots from upto e.key) m
 
--- Where a step of clearing ends that begins at a slot: as few slots as hold that many existing
+-- The end of a step of clearing that begins at a slot: as few slots as hold that many existing
 -- keys, or all slots that are left. It is the first slot after them.
 abbrev pub clear_end : ℕ → ℕ → ℕ → ℕ → List Entry → ℕ
 clear_end slots from size t m =

@@ -31,7 +31,7 @@ separator_takes mark (b ∷ bytes) rest e =
       | inr p ↦ absurd (let h = p.1 in cc)
     ]
 
--- a value is a key where it is one string
+-- a value is a key if it is one string
 key_is : (g : List Kind) (bytes rest : List ℕ) (k : List ℕ × List ℕ) → found (key g) bytes rest ≡ Ok k → (g ≡ key_value k.0) × (rest ≡ k.1)
 key_is [] bytes rest k e = absurd cc
 key_is (kinds.Null ∷ g) bytes rest k e = absurd cc

@@ -43,7 +43,7 @@ wants_end : (conf : Conf) (done : List Record) → wanted conf (loader_of done) 
 wants_end conf [] = refl
 wants_end conf (x ∷ done) = wants_end conf done
 
--- ---- nobody copies
+-- ---- no worker copies
 
 none_held : (m : Stage) (mask : ℕ) → m.windows ≡ [] → held_places m mask ≡ []
 none_held m mask none =

@@ -1,4 +1,4 @@
--- A loader beside scripts in range is in range, and its keys are of bytes.
+-- A loader together with scripts in range is in range, and its keys consist of bytes.
 use Rattle.std.proofs.Common.{List, [], ◌∷◌, ◌++◌, ℕ}
 use Rattle.std.specs.List.{AllByRecursion}
 use Rattle.script_read.specs.declared.script.Step.{Step}

@@ -1,4 +1,4 @@
--- What the loader's script is, whoever looks at it.
+-- What the loader's script is under any clock.
 use Rattle.std.proofs.Common.{◌≡◌, ℕ, zero, suc, ◌+◌, false, List, [], ◌∷◌, ◌++◌, length, drop, Some, None, slice_get, append_assoc, refl, sym, ap, ◌∙◌, arith}
 use Rattle.std.specs.List.{Contains}
 use Rattle.seg_words.specs.Members.{map_there}

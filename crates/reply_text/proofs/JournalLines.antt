@@ -46,7 +46,7 @@ texts_told (w ∷ ws) (v ∷ vs) r s small small' e =
 abbrev among : ℕ → List ℕ → Bool
 among k xs = list_any (λ x. x == k) xs
 
--- a choice adds the number in front where it is chosen
+-- a choice adds the number in front if it is chosen
 chosen : (k x : ℕ) (xs : List ℕ) (b : Bool) → among k (cond b (x ∷ xs) xs) ≡ ((b && (x == k)) || among k xs)
 chosen k x xs true = refl
 chosen k x xs false = refl

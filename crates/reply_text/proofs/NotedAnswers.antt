@@ -28,7 +28,7 @@ there_step key a m ms true o i e later = let z : 0 ≡ i = cc in subst (λ k. (k
 there_step key a m ms false (Some j) i e later = let s : suc j ≡ i = cc in subst (λ k. m ∷ noted key a ms ≡ slice_set (m ∷ ms) k (key, a)) s (ap (λ l. m ∷ l) (later j refl))
 there_step key a m ms false None i e later = absurd cc
 
--- the key's answer stands there: it is put in its place
+-- the key has a result: it is replaced
 pub noted_there : {A : Type 0} (key : List ℕ) (a : A) (ns : List (List ℕ × A)) (i : ℕ) → note_of key ns ≡ Some i → noted key a ns ≡ slice_set ns i (key, a)
 noted_there key a [] i e = absurd cc
 noted_there key a (m ∷ ms) i e = there_step key a m ms (bytes_eq m.0 key) (note_of key ms) i e (noted_there key a ms)

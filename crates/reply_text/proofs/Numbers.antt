@@ -59,7 +59,7 @@ pub record IsCut (r : List ℕ) : Type 0 where
   pub nothing : front r ≡ []
   pub all : back r ≡ r
 
--- a number and what follows it are told by their text
+-- a number and what follows it are determined by their text
 pub number_told : (a b : ℕ) (r s : List ℕ) → a < 2 ^ 64 → b < 2 ^ 64 → IsCut r → IsCut s → decimal a ++ r ≡ decimal b ++ s → (a ≡ b) × (r ≡ s)
 number_told a b r s small small' cut cut' e =
     let read : (n : ℕ) (t : List ℕ) → n < 2 ^ 64 → IsCut t → front (decimal n ++ t) ≡ decimal n =

@@ -22,7 +22,7 @@ asks_at ask [] k x h = absurd (cc h)
 asks_at ask (y ∷ ys) zero x h = let e : y ≡ x = cc h in ap (λ z. Asks (ask z)) (sym e)
 asks_at ask (y ∷ ys) (suc k) x h = asks_at ask ys k x h
 
--- what is left of a list begins with what stands there
+-- what is left of a list begins with the item there
 pub drop_at : {X : Type 0} (l : List X) (k : ℕ) (x : X) → slice_get l k ≡ Some x → drop k l ≡ x ∷ drop (k + 1) l
 drop_at [] k x h = absurd (cc h)
 drop_at (y ∷ ys) zero x h = let e : y ≡ x = cc h in ap (λ z. z ∷ ys) e

@@ -19,7 +19,7 @@ texts ws = flat_map (λ w. codes " " ++ decimal w) ws
 abbrev pub picked : ℕ → ℕ → ℕ → List ℕ
 picked mask w n = filter (is_in_mask mask) (range_with_len w n)
 
--- The workers below this one stand there, up to `at`; n others are left.
+-- The workers below this one are there, up to `at`; n others are left.
 pub record StandsUpto (line : List ℕ) (from mask at w : ℕ) : Type 0 where
   pub done : List ℕ
   pub n : ℕ
@@ -49,7 +49,7 @@ with_one mask w n is = ap (λ (b : Bool). texts (cond b (w ∷ picked mask (w + 
 without : (mask w n : ℕ) → is_in_mask mask w ≡ false → texts (picked mask w (suc n)) ≡ texts (picked mask (w + 1) n)
 without mask w n is = ap (λ (b : Bool). texts (cond b (w ∷ picked mask (w + 1) n) (picked mask (w + 1) n))) is
 
--- a worker of the mask stands there too
+-- a worker of the mask is there too
 pub one_stands : (line : List ℕ) (from mask at to w : ℕ) → w < 64 → mask / 2 ^ w % 2 ≡ 1 → StandsUpto line from mask at w → HasPiece line at (codes " " ++ decimal w) to
     → StandsUpto line from mask to (w + 1)
 one_stands line from mask at to w low bit s has = go s.n refl
@@ -66,7 +66,7 @@ one_stands line from mask at to w low bit s has = go s.n refl
           ∙ (ap (λ (l : List ℕ). s.done ++ l) (with_one mask w k (in_bit mask w bit)) ∙ sym (append_assoc s.done (codes " " ++ decimal w) (texts (picked mask (w + 1) k)))));
     }
 
--- a worker who is not of the mask needs nothing
+-- a worker that is not of the mask needs nothing
 pub none_needed : (line : List ℕ) (from mask at w : ℕ) → w < 64 → mask / 2 ^ w % 2 ≢ 1 → StandsUpto line from mask at w → StandsUpto line from mask at (w + 1)
 none_needed line from mask at w low bit s = go s.n refl
   where
@@ -80,7 +80,7 @@ none_needed line from mask at w low bit s = go s.n refl
       whole = s.whole ∙ (ap (λ (m : ℕ). s.done ++ texts (picked mask w m)) is ∙ ap (λ (l : List ℕ). s.done ++ l) (without mask w k (out_bit mask w bit)));
     }
 
--- a worker of the mask does not stand there
+-- a worker of the mask is not there
 pub one_differs : (line : List ℕ) (from mask at place w : ℕ) → w < 64 → mask / 2 ^ w % 2 ≡ 1 → StandsUpto line from mask at w → DiffersAt line at (codes " " ++ decimal w) place
     → DiffersAt line from (mask_text mask 64) place
 one_differs line from mask at place w low bit s d = go s.n refl
@@ -96,7 +96,7 @@ one_differs line from mask at place w low bit s d = go s.n refl
         subst (λ (l : List ℕ). DiffersAt line from l place) (sym whole)
         (sooner line from place (s.done ++ (codes " " ++ decimal w)) rest (later line from at place s.done (codes " " ++ decimal w) s.has d))
 
--- all stand there
+-- all are there
 pub all_stand : (line : List ℕ) (from mask at w : ℕ) → 64 ≤ w → StandsUpto line from mask at w → HasPiece line from (mask_text mask 64) at
 all_stand line from mask at w over s = go s.n refl
   where
@@ -111,7 +111,7 @@ none_picked w zero = refl
 none_picked w (suc n) =
     ap (λ (b : Bool). cond b (w ∷ picked 0 (w + 1) n) (picked 0 (w + 1) n)) (ap (λ (k : ℕ). k % 2 == 1) (zero-div (2 ^ w))) ∙ none_picked (w + 1) n
 
--- nobody is in the mask 0
+-- no worker is in the mask 0
 pub mask_zero : (mask : ℕ) → mask ≡ 0 → mask_text mask 64 ≡ []
 unfolding mask_text
 mask_zero mask z = ap (λ (m : ℕ). texts (picked m 0 64)) z ∙ ap texts (none_picked 0 64)

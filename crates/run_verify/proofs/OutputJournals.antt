@@ -1,4 +1,4 @@
--- Where the journal of an output begins, and its lines.
+-- The begin of the journal of an output, and its lines.
 use Rattle.std.proofs.Common.{◌≡◌, ℕ, zero, suc, ◌+◌, ◌<◌, ◌≤◌, ◌^◌, ◌%◌, Bool, true, false, cond, List, [], ◌∷◌, ◌++◌, take, Option, Some, None, refl, ap, ap₂, ◌∙◌, arith, append_assoc}
 use Rattle.std.specs.Prelude.{◌==◌, ◌&&◌, nat_eq, not, codes, map}
 use Rattle.std.specs.Fmt.{decimal}
@@ -111,7 +111,7 @@ part_here part all =
 
 -- ---- the lines of marks
 
--- a byte of a mark's line, but for its end
+-- a byte of a mark's line, except its end
 abbrev pub inner : ℕ → Bool
 inner b = quiet b && not (b == 10)
 

@@ -20,7 +20,7 @@ use Rattle.script_read.specs.Calls.{event_bound}
 use Rattle.script_read.specs.Play.{Asking, Each, Steps, Next, Asks, Leaves, Wish, Play, asking_of, asking_in, asks_each, asks_steps, asks_so, next_of, slot_after, step_end, wanted, continued, wish_of, after_wish, event_of, replies_of, marked, played_from, played, nothing_played}
 use Rattle.script_read.specs.Budgets.{events_in, all_events}
 
--- what is left behind so many replies
+-- what is left after this many replies
 abbrev Within : ℕ → ℕ → Next → Type 0
 Within n bound (Asks r) = n + 1 ≤ bound
 Within n bound (Leaves others) = n ≤ bound + length others

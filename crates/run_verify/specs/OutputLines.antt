@@ -1,4 +1,4 @@
--- Where the lines of an output begin and end.
+-- The begin and the end of the lines of an output.
 use Rattle.apcu_model.specs.declared.journal.Mark.{Mark}
 use Rattle.apcu_model.specs.declared.limits.TheConstants.{MOST_WORKERS}
 use Rattle.std.specs.Prelude.{◌<◌, ◌^◌, ℕ, suc, ◌-◌, ◌==◌, ◌||◌, Bool, if◌then◌else◌, List, [], ◌∷◌}

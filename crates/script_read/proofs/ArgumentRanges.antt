@@ -82,7 +82,7 @@ member_fits g (Own (suc x)) k fits is =
     let s = then_some string_of_kind (slice_get g x) k is in
     string_fits s.0 k (place_fits g x s.0 fits s.1) s.2
 
--- the members fit where they are keys with what fits
+-- the members fit if they are keys with what fits
 members_fit : (g : List Kind) (ms : List (Key × Child)) → AllByRecursion FitsKind g → members g ≡ Some ms → AllByRecursion (λ (m : Key × Child). FitsKey m.0) ms
 members_fit [] ms fits is = absurd cc
 members_fit (kinds.Array found ∷ places) ms fits is = subst (λ (l : List (Key × Child)). AllByRecursion (λ (m : Key × Child). FitsKey m.0) l) (some_is found ms is) fits.0
@@ -194,7 +194,7 @@ ttl_fits g t is n some = by_null (null g) is
 
 -- ---- generators
 
--- a generator of so many entries at most, under keys of bytes
+-- a generator of at most this many entries, under keys of bytes
 pub record FitsGen (levels : ℕ) (gen : Generator) : Type 0 where
   pub few : length gen.levels ≤ levels
   pub keys : AreKeys (map {A = EntryLevel} (λ level. level.key) gen.levels)

@@ -21,7 +21,7 @@ use Rattle.script_read.proofs.GenTexts.{GensTake, GensAgain}
 
 -- ---- what is said of forms
 
--- arguments stand there that have this effect
+-- there are arguments with this effect
 pub record IsSaid (form : Form) (bytes : List ℕ) (e : Effect) (rest : List ℕ) : Type 0 where
   pub arguments : List Argument
   pub values : AreArguments arguments

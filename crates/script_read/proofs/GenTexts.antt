@@ -23,7 +23,7 @@ use Rattle.script_read.proofs.ResultBinds.{ValuesTake, ValuesAgain, bind_ok, ok_
 
 -- ---- what is said of generators
 
--- a generator stands there that means this
+-- there is a generator with this meaning
 pub record IsGenSaid (levels : ℕ) (bytes : List ℕ) (gen : Generator) (rest : List ℕ) : Type 0 where
   pub written : WrittenGen
   pub values : IsWrittenGen written

@@ -123,7 +123,7 @@ AreLines lines = AllByRecursion (λ line. AreArguments line.arguments) lines
 abbrev rest_is : List Step → List (List Step) → Result Rest Fault
 rest_is steps scripts = Ok (steps, scripts)
 
--- the bytes hold these scripts, where so many have begun
+-- the bytes hold these scripts, after this many have begun
 abbrev ReadOn : ℕ → List ℕ → List (List Step) → Type 0
 ReadOn begun bytes scripts = (lines : ℕ) (now : Moments) → length bytes ≤ lines → lines_at lines begun now bytes ≡ rest_is [] scripts
 

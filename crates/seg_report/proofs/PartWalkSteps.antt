@@ -54,7 +54,7 @@ module _ (ws : List ℕ) (s : Entries) (from at : ℕ) (gap : Option (ℕ × ℕ
   behind = tiled_behind ws s.rows s.removed runs at (length ws) t.tile (tiles ws (at + t.tile.size))
       filled tiled_here
 
-  -- a part is told, and then those behind it
+  -- a part is printed, and then those after it
   told : (part : Part) (old new : List ℕ) → parts_at s.rows s.removed runs at ≡ part ∷ []
       → new ≡ old ++ part_line part
       → new ++ lines_from ws s (at + t.tile.size) ≡ old ++ lines_from ws s at

@@ -54,7 +54,7 @@ sorted_places rows old new are moved sorted = record {
   rising = λ i j low high. IsNonDecreasingBy-from_sort (λ x. x) new sorted i j 0 low high;
 }
 
--- the search tells whether a removed row stands there
+-- the search finds whether a removed row is there
 pub found_place : (places : List ℕ) (rows : List Row) (at : ℕ) (r : Result ℕ ℕ)
     → ArePlaces places rows → IsBinarySearchResult (λ y. nat_cmp y at) places r
     → is_ok r ≡ has_place at rows

@@ -126,7 +126,7 @@ and_true : (b : Bool) → (b && true) ≡ b
 and_true true = refl
 and_true false = refl
 
--- so many rows begin at the place
+-- this many rows begin at the place
 rows_at : (w : ℕ) (rows removed : List Row)
     → count_by (λ e. begins_at w e && true) (map extent_of (rows ++ removed))
     ≡ length (filter (is_at w) rows ++ filter (is_at w) removed)

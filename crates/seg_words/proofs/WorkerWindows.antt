@@ -74,7 +74,7 @@ opened_met (h ∷ hs) mask = λ at some. go (eqb (mask % 2) 1) refl at some (ope
         each true q = absurd (omega (arith, eqb-true 0 at q))
         each false q = joined 0 (holders (opened_for (mask / 2) hs) at) (omega arith) (omega arith) rest
 
--- nobody has a window
+-- no worker has a window
 pub none_met : (n mask : ℕ) → AreMet mask (replicate n 0)
 none_met n mask at some = ap (λ x. bit_or mask x) (none n) ∙ or_zero_r mask
   where

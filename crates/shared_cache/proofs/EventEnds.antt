@@ -1,4 +1,4 @@
--- An event keeps what is under the lock, and is told by the pass.
+-- An event keeps what the lock guards, and the pass knows it.
 use Rattle.std.proofs.Common.{◌≡◌, ℕ, suc, ◌+◌, ◌^◌, ◌<◌, ◌≤◌, ◌==◌, ◌&&◌, true, List, [], ◌∷◌, ◌++◌, length, Some, refl, ap, sym, ◌∙◌, subst, arith, sum, length-append, cond}
 use Rattle.apcu_model.specs.declared.journal.TheConstants.{MOST_EVENTS}
 use Rattle.std.proofs.lemmas.Bool.{eq-eqb}

@@ -51,7 +51,7 @@ begun_stands laws t s p w c took st = subst (λ (x : WriterState). CoreStands c 
 pub none_refused : (t : TableId) (s : WriterView) (p : PassView) (w : Writer) → Took t s p w → (b : ℕ) → has b (aside_of w.seat.now.state).refused ≡ false
 none_refused t s p w took b = ap (λ (x : WriterState). has b (aside_of x).refused) took.state
 
--- a call of the core leaves what is beside the words
+-- a call of the core leaves what is kept besides the words
 pub writes_on : {first w : Writer} → rest_of w ≡ rest_of first → WritesOn first w
 writes_on rest = record {
   worker = ap (λ (b : WriterRest). b.worker) rest;

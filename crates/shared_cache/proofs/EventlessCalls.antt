@@ -22,7 +22,7 @@ module _ (t : TableId) (conf : Conf) (budgets : List ℕ) (j : Marks) (w : Write
   log : w.seat.now.state.log ≡ with_hand work.seat.state.log (Some work.pass.known)
   log = work.writes_on.log ∙ ap (λ (x : WriterState). x.log) work.taken.state
 
-  -- Neither words nor windows have changed, and the seat is given back as s1.
+  -- Neither words nor windows have changed, and the seat is returned as s1.
   pub settles : (s1 : WriterView) (core : Core) → core ≡ work.core → w.seat.now.state.words ≡ work.first.seat.now.state.words
       → aside_of w.seat.now.state ≡ aside_of work.first.seat.now.state → s1.table ≡ w.seat.now.table
       → s1.state ≡ rested w.seat.now.state (with_hand w.seat.now.state.log None) → Settled t conf budgets s1 core j

@@ -8,7 +8,7 @@ use Rattle.notation.specs.Parts.{string_head}
 use Rattle.notation.specs.Notation.{child_text, string_text, text_of}
 use Rattle.value_image.specs.Texts.{string_of}
 
--- bytes that are so many
+-- bytes of this number
 pub counted : (found : Option (List ℕ)) (n : ℕ) → Some n ≡ option_map (λ (bytes : List ℕ). length bytes) found → (bytes : List ℕ) × (found ≡ Some bytes) × (n ≡ length bytes)
 counted None n h = cc
 counted (Some bytes) n h = (bytes, refl, (let same : n ≡ length bytes = cc in same))

@@ -1,4 +1,4 @@
--- What holds of words that blocks and gaps fill, whatever the allocator keeps beside them.
+-- What holds of words that blocks and gaps fill, whatever the allocator keeps besides them.
 use Rattle.std.proofs.Common.{◌≡◌, ℕ, List, length}
 use Rattle.seg_words.specs.Windows.{Aside}
 use Rattle.sma_blocks.specs.declared.bounds.Bounds.{Bounds}

@@ -1,4 +1,4 @@
--- Where a block fits, met along the walk.
+-- The places at which a block fits, along the walk.
 use Rattle.std.proofs.Common.{◌≡◌, ◌⊎◌, inl, inr, ℕ, ◌+◌, ◌-◌, ◌%◌, ◌<◌, ◌≤◌, Bool, true, false, not, eqb, leb, ◌&&◌, List, [], ◌∷◌, ◌++◌, length, Some, None, refl, sym, ap, ◌∙◌, subst, arith}
 use Rattle.std.proofs.lemmas.Bool.{and_left, and_right, and_from, cases_lt, cases_Bool, false≢true, false_from_ne_true}
 use Rattle.seg_words.specs.declared.gaps.Extent.{Extent}

@@ -123,7 +123,7 @@ module _ {bounds : Bounds} {ws : List ℕ} {aside : Aside} {at size first last :
       let o = order in
       omega (arith, o.2)
 
-  -- the gap after the block is told
+  -- the gap after the block is known
   pub end_some : at + size < last → get_or numbers ((at + size) / 2) 0 ≢ 0
   end_some lt none =
       let o = order in

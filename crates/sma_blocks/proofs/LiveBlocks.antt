@@ -30,7 +30,7 @@ meets_apart x n e (inr h) = grind (arith, nat_tests)
 pub meets_at : (x n : ℕ) (e : Extent) → max x e.place < min (x + n) (e.place + e.size) → meets x n e ≡ true
 meets_at x n e h = grind (arith, nat_tests)
 
--- words outside the tiles are free beside them
+-- words outside the tiles are free
 pub free_outside : (ws : List ℕ) (a : ℕ) (ps : List Tile) (b x n : ℕ) → Fill ws a ps b → (x + n ≤ a) ⊎ (b ≤ x) → is_free x n (lives ps) ≡ true
 free_outside ws a [] b x n h out = refl
 free_outside ws a (p ∷ ps) b x n h out =

@@ -70,14 +70,14 @@ pub after_border : (ws : List ℕ) (from end : ℕ) {s : ℕ} → IsFormatted ws
 after_border ws from end {s} formatted h border =
     record { tail = []; rest = tiles ws end; between = refl; after = h.after; free = refl; one = omega arith; whole = λ lt. absurd (omega arith); joined = λ lt. absurd (omega arith); begins_live = merged_border s ws end (tiles ws end) (length ws) h.after border (merged_at ws from end h formatted) }
 
--- a live block stands there
+-- a live block is there
 pub after_live : (ws : List ℕ) (from end size : ℕ) (rest : List Tile) {s : ℕ} → IsFormatted ws from s → IsEdge ws from end → tiles ws end ≡ record { place = end; size = size; live = true } ∷ rest → IsFreeAfter ws s end end
 after_live ws from end size rest {s} formatted h is =
     let p : Tile = record { place = end; size = size; live = true } in
     let merged : gaps_touch s false (p ∷ rest) ≡ false = subst (λ ps. gaps_touch s false ps ≡ false) is (merged_at ws from end h formatted) in
     record { tail = []; rest = p ∷ rest; between = refl; after = subst (λ ps. Fill ws end ps (length ws)) is h.after; free = refl; one = omega arith; whole = λ lt. absurd (omega arith); joined = λ lt. absurd (omega arith); begins_live = merged_block s true p rest refl (merged_live s false p rest refl merged) }
 
--- a gap stands there
+-- a gap is there
 pub after_gap : (ws : List ℕ) (from end size : ℕ) (rest : List Tile) {s : ℕ} → IsFormatted ws from s → IsEdge ws from end → tiles ws end ≡ record { place = end; size = size; live = false } ∷ rest → is_whole s (end - 1) 2 ≡ true → IsFreeAfter ws s end (end + size)
 after_gap ws from end size rest {s} formatted h is joined =
     let p : Tile = record { place = end; size = size; live = false } in

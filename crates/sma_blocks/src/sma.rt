@@ -194,7 +194,7 @@ impl Sma {
         self.lay(seg, self.bounds.from, end);
     }
 
-    /// The number of free words: the words of all gaps.
+    /// The number of free words, which is that of the words in all gaps.
     pub fn free_words<S: WordsIn>(&self, seg: &mut S) -> u32
         requires { IsReady self.now (S.words seg.old) (S.aside seg.old) }
         ensures value { result ≡ sum_by (λ run. run.size)
@@ -220,8 +220,7 @@ impl Sma {
         self.head
     }
 
-    /// The first gap at or past `at`, as its place and its size; `None` if and only if there is
-    /// none.
+    /// The first gap at or after `at`, as its place and its size; `None` exactly if there is none.
     pub fn gap_from<S: WordsIn>(&self, seg: &mut S, at: u32) -> Option<(u32, u32)>
         requires { IsReady self.now (S.words seg.old) (S.aside seg.old) }
         ensures value { result ≡ option_map (λ run. (run.place, run.size)) (find
@@ -296,8 +295,8 @@ impl Sma {
         self.head = first;
     }
 
-    // The place from which on the words right before the live block at `at` are free; `before` is
-    // the last gap before it. It reads the index alone.
+    // The place from which the words right before the live block at `at` are free; `before` is the
+    // last gap before it. It reads only the index.
     fn free_before<S: WordsIn>(&self, seg: &S, before: Option<usize>, at: u32) -> u32
         requires ready { IsReady self.now (S.words seg.now) (S.aside seg.now) }
         requires live { IsLive (live_blocks (S.words seg.now) self.now.bounds.from) at }
@@ -323,7 +322,7 @@ impl Sma {
         at
     }
 
-    // The place up to which the words from the edge `end` on are free. It reads the index alone.
+    // The place up to which the words from the edge `end` on are free. It reads only the index.
     fn free_after<S: WordsIn>(&self, seg: &S, end: u32) -> u32
         requires ready { IsReady self.now (S.words seg.now) (S.aside seg.now) }
         requires edge { IsEdge (S.words seg.now) self.now.bounds.from end }

@@ -53,8 +53,8 @@ pub fn link_of<S: WordsIn>(seg: &mut S, head: u32, before: Option<usize>) -> u64
     }
 }
 
-// The place of the next gap after `n` words of the gap at `at` were taken: the rest of it, or the
-// gap that its link names.
+// The place of the next gap after `n` words of the gap at `at` were taken: the rest of them, or the
+// gap's link.
 pub fn rest_of<S: WordsIn>(seg: &mut S, at: u32, size: u32, n: u32) -> u64
     requires inside { at + 1 < length (S.words seg.old) }
     requires told { IsTold (S.aside seg.old).windows (at + 1) }
@@ -69,8 +69,8 @@ pub fn rest_of<S: WordsIn>(seg: &mut S, at: u32, size: u32, n: u32) -> u64
     seg.load(at + 1)
 }
 
-// The place of the next gap after the words from `first` up to `last` became one gap: that which
-// the link of the last gap among them names, or else the link of the gap before, or the head.
+// The place of the next gap after the words from `first` up to `last` became one gap: the link of
+// the last gap among them, or else that of the gap before, or the head.
 pub fn next_of<S: WordsIn>(
     seg: &mut S,
     head: u32,

@@ -19,7 +19,7 @@ use Rattle.ttl_expunge.specs.ProbedRows.{Drops}
 use Rattle.ttl_expunge.specs.Lists.{row_places, AreRowsAt}
 use Rattle.ttl_expunge.proofs.DroppedRows.{only_once, drops_on}
 
--- the row behind so many
+-- the row after this many
 pub record IsNth (some : List Row) (i : ℕ) : Type 0 where
   pub row : Row
   pub member : Contains some row

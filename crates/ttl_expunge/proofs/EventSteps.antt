@@ -1,4 +1,4 @@
--- Steps of an event beside calls that only read.
+-- Steps of an event together with calls that only read.
 use Rattle.std.proofs.Common.{◌≡◌, List, [], ℕ, sym, ◌∙◌, subst}
 use Rattle.seg_words.specs.Windows.{Aside}
 use Rattle.seg_words.specs.declared.segment.WordsIn.{Ghosts}

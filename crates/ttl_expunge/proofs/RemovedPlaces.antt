@@ -20,7 +20,7 @@ use Rattle.entry_slots.specs.RowPlaces.{place_there}
 use Rattle.ttl_expunge.proofs.Rows.{next_in, alone}
 use Rattle.ttl_expunge.proofs.ReadOnlyCalls.{flip}
 
--- So many removed rows were passed and their places collected, and `at` is the next.
+-- This many removed rows were passed and their places collected, and `at` is the next.
 pub record Listing (removed : List Row) (at count : ℕ) (places : List ℕ) : Type 0 where
   pub done : List Row
   pub todo : List Row

@@ -47,7 +47,7 @@ pub passing_later : {s s' : Entries} {before after : Aside} {t : ℕ} {gone : Li
     → s' ≡ entries_of (dropped (held_blocks later) t gone c)
 passing_later {t = t} {gone} c d e later goes = dropped_later d later goes ∙ ap (λ (x : Entries). dropped_rows (held_blocks later) t gone x) e
 
--- the expired rows, where there is a limit
+-- the expired rows, if there is a ttl
 pub expired_later : {s s' : Entries} {before after : Aside} {t : ℕ} (c : Cache) → Drops s s' before after t (spent s.conf t s.rows) → s ≡ entries_of c → (later : Aside) → Goes after later
     → s' ≡ entries_of (expired_dropped (held_blocks later) t c)
 expired_later {t = t} c d e later goes =

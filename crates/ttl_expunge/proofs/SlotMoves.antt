@@ -249,7 +249,7 @@ all_left {first} {s} {new} {start} {aside} {after} {t} m good d = record {
         (ap (λ l. first.removed ++ dated t l) (filter_all (is_held held) (filter (is_held held) all) (λ row c. (Contains-filter (is_held held) all row c).1) ∙ sym (same_held aside after all d.goes m.decided)))
         refl))
 
--- the removed list is empty where it has no first row
+-- the removed list is empty if it has no first row
 pub none_removed : (s : Entries) (words windows : List ℕ) → IsSound s words windows → first_place s.removed ≡ 0 → s.removed ≡ []
 none_removed s words windows sound h = go s.removed refl h
   where

@@ -40,7 +40,7 @@ owns-cons : (c : Child) (cs : List Child) → owns (c ∷ cs) ≡ owns (c ∷ []
 owns-cons (Own x) cs = omega arith
 owns-cons (Back x) cs = omega arith
 
--- so many numbers were taken by members, and by the members in their places
+-- this many numbers were taken by members, and by the members in their places
 record IsCounted (g : List Kind) (own m e : ℕ) : Type 0 where
   up : m ≤ e
   count : own + owns_from g m (e - m) ≡ e - m
@@ -128,7 +128,7 @@ children_few g graph =
     let whole = ap (owns_from g 1) all in
     omega (arith, counted.count, whole, owns_from-all g, kinds-split g, graph.count)
 
--- what a graph keeps beside its places
+-- what a graph keeps besides its places
 pub kept : (places : List Kind) (offsets : List ℕ) (words len : ℕ) (g : List Kind) → IsGraph g → places ≡ g → offsets ≡ offsets_from 0 g → words ≡ len → len ≡ image_length g → len < 2 ^ 32
     → IsKept places offsets words
 kept places offsets words len g graph ep eo ew el short =

@@ -1,4 +1,4 @@
--- Bytes as the digits of numbers, beside what byteorder's own definitions say.
+-- Bytes as the digits of numbers, compared with byteorder's own definitions.
 use Rattle.std.proofs.Common.{◌≡◌, ℕ, zero, suc, ◌+◌, ◌*◌, ◌^◌, List, [], ◌∷◌, ◌++◌, length, take, replicate, slice_index, refl, ap, ap₂, sym, ◌∙◌, arith, length-append}
 use Rattle.std.proofs.lemmas.List.{append_assoc, take_at}
 use Rattle.byteorder.specs.Endian.{little_from}

@@ -115,7 +115,7 @@ string-key-at row old at tag key row' new h word other er ea =
 
 -- ---- members
 
--- a member's word is there and is told, and its key stands behind it
+-- a member's word is there and is told, and its key follows it
 pub member-there : (row windows : List ℕ) (at : ℕ) (m : Key × Child) → IsMemberAt row windows at m → (at < length row) × IsTold windows at × (slice_index row at ≡ child_word itself m.1)
 member-there row windows at m h = told-first row windows at (child_word itself m.1) (key_words m.0) h.told
 

@@ -102,7 +102,7 @@ table-many table offsets len g e is long filled (suc i) low high =
 
 -- ---- numbers that come back
 
--- the table gives back each of n numbers from its offset, and is long enough
+-- the table returns each of n numbers for its offset, and is long enough
 pub record IsBack (n size : ℕ) (t o : ℕ → ℕ) : Type 0 where
   pub below : (x : ℕ) → IsPlaceOf n x → o x < size
   pub back : (x : ℕ) → IsPlaceOf n x → t (o x) ≡ x

@@ -254,7 +254,7 @@ all-fit : (f : ℕ → ℕ) (xs : List Kind) → AllByRecursion FitsKind xs → 
 all-fit f [] h = tt
 all-fit f (x ∷ xs) h = (kind-fit f x h.0, all-fit f xs h.1)
 
--- where no window names a block, every word is told
+-- if no window names a block, every word is told
 all-told : (row : List ℕ) (at : ℕ) (run : List ℕ) → StandsAt row at run → IsToldAt row [] at run
 all-told row at run h = record { stands = h; told = λ i low high. refl }
 

@@ -37,7 +37,7 @@ written-is row at (w ∷ run) le =
     ∙ (append_assoc (take at row) (w ∷ []) (run ++ drop (length run) (drop (at + 1) row))
     ∙ ap (λ (r : List ℕ). take at row ++ (w ∷ (run ++ r))) shift))
 
--- what was written stands there
+-- what was written is there
 pub stands-written : (row : List ℕ) (at : ℕ) (run : List ℕ) → at + length run ≤ length row → StandsAt (written row at run) at run
 stands-written row at run le =
     let front : length (take at row) ≡ at = length-take-le at row (omega arith) in
@@ -67,7 +67,7 @@ may_write-fewer row windows at n m h le = may_write-after row windows at n [] at
 
 -- ---- what stands in a row
 
--- a run that stands there lies inside the row
+-- a run that is there lies inside the row
 pub stands-inside : (row : List ℕ) (at : ℕ) (run : List ℕ) → StandsAt row at run → 0 < length run → at + length run ≤ length row
 stands-inside row at run h some =
     let len = ap (length {A = ℕ}) h in

@@ -44,7 +44,7 @@ get-string (k ∷ ks) (kinds.Array ms) f bytes get e = cc
 get-string (k ∷ ks) (kinds.Object class ps) f bytes get e = cc
 get-string (k ∷ ks) (kinds.Same x) f bytes get e = cc
 
--- the string stands there, behind its tag
+-- the string is there, after its tag
 pub string-there : (row : List ℕ) (old : Aside) (at : ℕ) (g : List Kind) (bytes : List ℕ) → IsToldImage row old.windows at g → image_length g < 2 ^ 32 → string_of g ≡ Some bytes
     → IsStringAt row old.windows at bytes × (slice_index row at ≡ 3 + 8 * length bytes)
 string-there row old at g bytes h short is =
@@ -74,7 +74,7 @@ tag-other row old at tag g h short word other = none-of (string_of g) (λ bytes 
 pub told-here : (row windows : List ℕ) (at : ℕ) (g : List Kind) → IsToldImage row windows at g → IsTold windows at
 told-here row windows at g h = h.told at (omega arith) (omega (arith, image-some row at (image_length g) g h.image))
 
--- so many bytes of a string lie in its row, behind its tag
+-- this many bytes of a string lie in its row, after its tag
 pub string-inside : (row : List ℕ) (old : Aside) (at len : ℕ) (g : List Kind) (bytes : List ℕ) → IsToldImage row old.windows at g → length row < 2 ^ 32 → string_of g ≡ Some bytes → len ≡ length bytes
     → at + 1 + words_in len ≤ length row
 string-inside row old at len g bytes h short is en =
@@ -98,7 +98,7 @@ string-bytes row old at len g bytes h short is en =
     let n : (3 + 8 * length bytes) / 8 ≡ len = omega (arith, en) in
     subst (λ (k : ℕ). take k (bytes_of (drop (at + 1) row)) ≡ bytes) n (text-bytes row old.windows at (3 + 8 * length bytes) bytes there refl)
 
--- two strings whose images stand there are of one length
+-- two strings whose images are there have the same length
 pub same-length : (row : List ℕ) (old : Aside) (at : ℕ) (g h : List Kind) (xs ys : List ℕ) → IsToldImage row old.windows at g → IsToldImage row old.windows at h → length row < 2 ^ 32
     → string_of g ≡ Some xs → string_of h ≡ Some ys → length xs ≡ length ys
 same-length row old at g h xs ys gs hs short is iy =

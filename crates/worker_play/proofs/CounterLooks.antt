@@ -48,7 +48,7 @@ set_behind : (xs : List ℤ) (y x : ℤ) (ys : List ℤ) → slice_set (xs ++ y 
 set_behind [] y x ys = refl
 set_behind (z ∷ xs) y x ys = ap (λ (l : List ℤ). z ∷ l) (set_behind xs y x ys)
 
--- So many counters were looked at, and the others are still 0.
+-- This many counters were read, and the others are still 0.
 pub record Looked (conf : Conf) (workers : ℕ) (p q : PassView) (n : ℕ) (numbers : List ℤ) : Type 0 where
   pub replies : List Reply
   pub goes : GoesOn conf workers p q (first_looks n) replies

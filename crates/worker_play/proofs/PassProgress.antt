@@ -131,8 +131,8 @@ of_ok {X} {E} {P} r x is p = subst (λ (r : Result X E). OnOk r P) is p
 
 -- ---- on the way through some turns
 
--- After the wishes so far the turns go on as these. What is told of all replies is what is still to
--- be told, after those so far.
+-- After the wishes so far the turns continue as these. The result of all replies is what is still
+-- to come, after those so far.
 abbrev pub Midway : {A : Type 0} → Conf → ℕ → PassView → PassView → (List Reply → Turn) → (List Reply → Turn) → (List Reply → A) → (List Reply → A) → Type 0
 Midway conf workers p q turns rest told to_tell =
     (r : Reaches conf workers p q turns) × ((later : List Reply) → turns (r.replies ++ later) ≡ rest later)

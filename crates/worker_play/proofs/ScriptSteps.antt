@@ -88,7 +88,7 @@ steps_end conf workers p q turns lines told out m whole =
 
 -- ---- steps at their moments under a clock
 
--- what is still to be asked and told on the way through a script
+-- what is still to be requested and printed on the way through a script
 abbrev pub OnTheWay : Conf → ℕ → PassView → PassView → Clock → List Step → List Step → Lines → List ℕ → Type 0
 OnTheWay conf workers p q clock all rest lines out =
     Midway conf workers p q (turns_of conf (timed clock all)) (turns_of conf (timed clock rest)) (λ replies. left_of lines (script_lines conf (timed clock all) replies)) (λ later. left_of lines (out ++ script_lines conf (timed clock rest) later))

@@ -47,7 +47,7 @@ undone_ends conf workers p q turns t told acc m = subst (λ (l : List (List ℕ)
 pub noted_ends : {A : Type 0} (conf : Conf) (workers : ℕ) (p q : PassView) (turns : List Reply → Turn) (t : ℕ) (answer_in : Reply → Option A) (told : List Reply → List (List ℕ × A)) (notes : List (List ℕ × A)) → Midway conf workers p q turns (asks_at t []) told (all_noted answer_in notes []) → Tells conf workers p q turns told notes
 noted_ends conf workers p q turns t answer_in told notes m = ends conf workers p q turns (asks_at t []) told (all_noted answer_in notes []) m refl
 
--- what is printed of what is told
+-- what is printed of the results
 pub printed : {A : Type 0} (conf : Conf) (workers : ℕ) (p q : PassView) (turns : List Reply → Turn) (told : List Reply → A) (a : A) (text : A → List ℕ) (new : List ℕ) → Tells conf workers p q turns told a → new ≡ text a → Tells conf workers p q turns (λ replies. text (told replies)) new
 printed conf workers p q turns told a text new t e = record { asked = t.asked; over = t.over; is = e ∙ ap text t.is }
 

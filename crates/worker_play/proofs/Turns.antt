@@ -62,7 +62,7 @@ next_leaves : (t : ℕ) (next : Next) (others : List Reply) → turn_at t next �
 next_leaves t (Asks request) others e = absurd (cc (e))
 next_leaves t (Leaves own) others e = let same : own ≡ others = cc (e) in ap Leaves same
 
--- a call that is over leaves what comes after
+-- a call that has ended leaves what comes after
 pub over_goes_on : (conf : Conf) (t : ℕ) (call : Call) (own : List Reply) → turns_at t (next_of conf call) own ≡ Over [] → (later : List Reply) → next_of conf call (own ++ later) ≡ Leaves later
 over_goes_on conf t call own over later = leaves_more conf call own [] later (next_leaves t (next_of conf call own) [] over)
 
@@ -90,7 +90,7 @@ takes_few conf call replies others done = elim (cases_lt (event_bound conf.slots
       ]
 ]
 
--- who asks after a few replies alone asks not much more often
+-- a call that makes requests only after a few replies makes not many more
 asked_few : (turns : List Reply → Turn) (ws : List Wish) (rs : List Reply) (n : ℕ) → AreInTurn (wanted_in turns) ws rs → ((replies : List Reply) (w : Wish) → turns replies ≡ Takes w → length replies < n) → length ws ≤ n
 asked_few turns ws rs n a few = elim (slice_get_cases ws (length ws - 1)).1 [
   | inl there ↦
@@ -133,7 +133,7 @@ in_turn_first conf step steps ws rs a =
     in_turn_as (wanted_in (turns_at step.t (next_of conf step.call))) (wanted_in (turns_of conf (step ∷ steps))) ws rs
     (λ replies w e. first_wants (turns_of conf steps) (turns_at step.t (next_of conf step.call) replies) w e) a
 
--- and once that is over what the later ones want
+-- and once that has ended what the later ones want
 pub turns_step : (conf : Conf) (step : Step) (steps : List Step) (own : List Reply) → turns_at step.t (next_of conf step.call) own ≡ Over [] → (later : List Reply) → turns_of conf (step ∷ steps) (own ++ later) ≡ turns_of conf steps later
 turns_step conf step steps own over later = ap (λ (n : Next). then_turns (turns_of conf steps) (turn_at step.t n)) (over_goes_on conf step.t step.call own over later)
 
@@ -150,7 +150,7 @@ calls_wanted conf (step ∷ steps) replies w e =
 pub in_turn_wanted : (conf : Conf) (script : List Step) (ws : List Wish) (rs : List Reply) → AreInTurn (wanted_in (turns_of conf script)) ws rs → AreInTurn (wanted conf script) ws rs
 in_turn_wanted conf script ws rs a = in_turn_as (wanted_in (turns_of conf script)) (wanted conf script) ws rs (calls_wanted conf script) a
 
--- ---- a script that is over
+-- ---- a script that has ended
 
 -- its first call was done
 record FirstOver (conf : Conf) (step : Step) (steps : List Step) (replies others : List Reply) : Type 0 where

@@ -32,7 +32,7 @@ pub few_taken : (conf : Conf) (workers : ℕ) (p q : PassView) (clock : Clock) (
 few_taken conf workers p q clock script r =
     omega (arith, r.goes.left, script_few conf (timed clock script) r.made r.replies r.in_turn, timed_events conf.slots clock script)
 
--- who has made no event was answered nothing
+-- a worker that has made no event has no replies
 pub unanswered : OwnLaws → (conf : Conf) (p : PassView) → p.known.own ≡ [] → KnowsOwnEvents p → own_replies conf p.known.worker p.known.seen ≡ []
 unanswered laws conf p none whole = laws.others conf p.known.worker [] p.known.seen (whole ∙ none)
 

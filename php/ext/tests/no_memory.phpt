@@ -21,7 +21,7 @@ echo stream_get_contents($pipes[1]);
 var_dump(proc_close($started));
 ?>
 --EXPECTF--
-Warning: apc.shm_size is 4294967296000000 bytes, and no cache has more than %d in Unknown on line 0
+Warning: apc.shm_size is 4294967296000000 bytes, which exceeds the maximum of %d; APCu is disabled in Unknown on line 0
 
 Warning: apcu_cache_info(): No APC info available.  Perhaps APC is not enabled? Check apc.enabled in your ini file in Command line code on line 1
 
@@ -40,7 +40,7 @@ NULL
 bool(false)
 bool(false)
 APC must be enabled to use APCUIterator
-Warning: apc.shm_size is 107374182400 bytes, and no cache has more than %d in Unknown on line 0
+Warning: apc.shm_size is 107374182400 bytes, which exceeds the maximum of %d; APCu is disabled in Unknown on line 0
 
 Warning: apcu_cache_info(): No APC info available.  Perhaps APC is not enabled? Check apc.enabled in your ini file in Command line code on line 1
 

@@ -1,4 +1,5 @@
--- `cache_get_view_unchecked` meets its contract: the cache is lent for a lifetime that is made for the call of `view`, and comes back once it is over.
+-- `cache_get_view_unchecked` meets its contract: the cache is lent for a lifetime that is made for
+-- the call of `view`, and returned when it has ended.
 use Rattle.cache_c.proofs.Steps.{◌≡◌, [], ◌∷◌, refl, proved, full_share, id⊢, emp, ftrue, fex, flft, flent, fsep, named, vptr, fact, fact_i, tables, ‵, raw, ◌⊛◌, some, later, prop, ◌$◌, ◌∵◌, !, qed, done, move, keep, drop, use0, use1, use2, use3, split, join, fsplit, fjoin, fpack, fpick, pick, await, regoal, suffices, group, enter, addr, stop, no_more, and_then, returns, alloc_all, pass_all, free_all, look_at, get, through, sets, lands_as, yes, Ptr, RawPtr, block_ptr, in_a_block, rawptr_vals, rawptr_Tells, MutRef, MutBor, plain, nothing, heard, peeks, calls_at, lasts, on_entry, triple_of, Stays, walk_of, stay_dropped, Goes-dropped, ends_at, framed}
 use Rattle.std.proofs.Common.{ℕ}
 use prog.Wp.{WpFn}
@@ -53,7 +54,7 @@ cache_get_view_unchecked_spec 𝓤 𝓛 𝓜 𝓡 wired =
     use1 𝓛 (later (some (λ (r : View). ((‵ (flft (α ∷ []) full_share) ⊛ ‵ ftrue) ⊛ ‵ (B.own_val r (v ∷ []))) ⊛
     some (λ (ws : Cache × Unit {0}). ‵ (lasts g.ended z.0.0 z.0.3 ws) ⊛ (raw (fact 𝓤 (StandsUnchanged n ws.0)) ⊛ raw (fact 𝓤 (Told r))))))) (id⊢ 𝓤 _) $
     await ! tt $ pick ! (λ r. split ! $ split ! $ split ! $ lft_end ! tt $
-    -- [α is over; nothing; the answer; the ensures; what the lender keeps]
+    -- [α has ended; nothing; the answer; the ensures; what the lender keeps]
     move ! (3 ∷ []) $ pick ! (λ ws. split ! $ move ! (1 ∷ []) $ split ! $ heard ! _ (λ kept. heard ! _ (λ told. fsplit ! $ fsplit ! $
     move ! (3 ∷ 6 ∷ 0 ∷ []) $ use3 𝓛 (later (‵ (lies (block_ptr b o) ws.0))) (ref_back 𝓛 R (α ∷ []) δ ws.0 b o) $ await ! tt $
     -- [the cache; its borrow; nothing; nothing; the answer]

@@ -1,4 +1,5 @@
--- `cache_list_slots_unchecked` meets its contract: the cache and the caller's memory are lent for a lifetime that is made for the call of `list_slots`, and come back once it is over.
+-- `cache_list_slots_unchecked` meets its contract: the cache and the caller's memory are lent for a
+-- lifetime that is made for the call of `list_slots`, and returned when it has ended.
 use Rattle.cache_c.proofs.Steps.{ℕ, List, [], ◌∷◌, ◌++◌, refl, w64, proved, full_share, id⊢, emp, ftrue, fex, flft, flent, fsep, feq, named, Val, vint, vptr, fact, fact_i, tables, ‵, raw, ◌⊛◌, some, later, prop, ◌$◌, ◌∵◌, !, qed, done, move, keep, drop, use0, use1, use2, use3, split, join, fsplit, fjoin, fpack, fpick, feq_i, feq_l, pick, await, regoal, suffices, group, enter, addr, stop, no_more, and_then, returns, alloc_all, pass_all, free_all, look_at, get, through, sets, lands_as, yes, uint_Makes, uint_vals, uint_Tells, Ptr, RawPtr, block_ptr, lies_at, in_a_block, rawptr_vals, rawptr_Tells, MutRef, MutBor, plain, nothing, owned, heard, peeks, calls_at, lasts, on_entry, triple_of, Stays, walk_of, stay_dropped, Goes-dropped, ends_at, framed}
 use Rattle.std.proofs.Common.{sym, subst, w32, length}
 use prog.Wp.{WpFn}
@@ -77,11 +78,13 @@ cache_list_slots_unchecked_spec 𝓤 𝓛 𝓜 𝓡 wired =
     use1 𝓛 (later (some (λ (r : Listing). ((‵ (flft (α ∷ []) full_share) ⊛ ‵ (flft (β ∷ []) full_share) ⊛ ‵ ftrue) ⊛ ‵ (B.own_val r (v ∷ []))) ⊛
     some (λ (ws : Cache × (Unit {0} × (Unit {0} × (List ToldRow × Unit {0})))). ‵ (lasts g.ended z.0.0 z.0.3 ws) ⊛ (raw (fact 𝓤 (StandsUnchanged old ws.0)) ⊛ raw (fact 𝓤 (Told ws.0 ws.1.1.1.0 r))))))) (id⊢ 𝓤 _) $
     await ! tt $ pick ! (λ r. split ! $ split ! $ split ! $ lft_end ! tt $ move ! (1 ∷ []) $ split ! $ lft_end ! tt $
-    -- [β is over; nothing; α is over; the answer; the ensures; the slice's lender's; the loan's lender's]
+    -- [β has ended; nothing; α has ended; the answer; the ensures; the slice's lender's; the loan's
+    -- lender's]
     move ! (4 ∷ []) $ pick ! (λ ws. split ! $ move ! (1 ∷ []) $ split ! $ heard ! _ (λ kept. heard ! _ (λ told. fsplit ! $ fsplit ! $
     let ys : List ToldRow = ws.1.1.1.0 in
     move ! (5 ∷ 8 ∷ 0 ∷ []) $ use3 𝓛 (later (‵ (lies (block_ptr b o) ws.0))) (ref_back 𝓛 R (α ∷ []) δ ws.0 b o) $ await ! tt $
-    -- [the cache; its borrow; the other parameters; β is over; nothing; the answer; the slice's lender's]
+    -- [the cache; its borrow; the other parameters; β has ended; nothing; the answer; the slice's
+    -- lender's]
     move ! (2 ∷ []) $ fsplit ! $ drop ! $ fsplit ! $ drop ! $ fsplit ! $ fsplit ! $ fsplit ! $
     move ! (6 ∷ 9 ∷ 0 ∷ []) $ use3 𝓛 (later (‵ ((Arr (mem E) m).own_at ys b' o'))) (slice_back 𝓛 E (β ∷ []) γ ys m b' o') $ await ! tt $ fsplit ! $ feq_l ! (λ same.
     use1 𝓛 (‵ (row E full_share ys b' o')) (whole_out 𝓛 E ys b' o') $ feq_i ! ℕ (length ys) m same $ fjoin ! $

@@ -38,7 +38,7 @@ impl Sma {
         self.far_fit(n)
     }
 
-    // That gap if it is one of the first of the chain.
+    // That gap, if it is one of the first of the chain.
     fn near_fit<S: WordsIn>(&self, seg: &mut S, n: u32) -> Option<Fit>
         requires size { 2 ≤ n }
         requires ready { IsReady self.now (S.words seg.old) (S.aside seg.old) }

@@ -28,7 +28,7 @@ word_of_byte-word-requires-clause-told g c = let lt = word_in c.loop-i.i c.args.
 pub word_of_byte-word-requires-clause-held : goal.word_of_byte-word-requires-clause-held
 word_of_byte-word-requires-clause-held g c = λ some. c.loop-i.invariant.held some ∙ ap (λ (r : List ℕ). slice_index r (c.args.at + c.loop-i.i / 8)) (sym c.loop-i.invariant.kept.words)
 
--- the next byte is in the same word, where it is not its first
+-- the next byte is in the same word, if it is not its first
 same_word : (i : ℕ) → 0 < (i + 1) % 8 → i / 8 ≡ (i + 1) / 8
 same_word i some = omega arith
 

@@ -8,7 +8,7 @@ use Rattle.script_read.specs.Reading.{space_at, generator_at}
 use Rattle.script_read.specs.Gives.{GivesItem}
 use Rattle.script_read.proofs.generators.gen_argument.Goals as goal
 
--- what was read with so many levels, where as many are due
+-- what was read with this many levels, if as many are expected
 gives_levels : {X : Type 0} (view : X → Generator × List ℕ) (r : Result X Stop) (n due : ℕ) (argument : List ℕ) → GivesItem view r (generator_at n argument) → n ≡ due → GivesItem view r (generator_at due argument)
 gives_levels view r n due argument h same = subst (λ k. GivesItem view r (generator_at k argument)) same h
 

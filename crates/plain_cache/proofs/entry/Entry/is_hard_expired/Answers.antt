@@ -5,7 +5,7 @@ use Rattle.apcu_model.specs.Cache.{Row}
 use Rattle.apcu_model.specs.Expiry.{is_hard_expired}
 use Rattle.plain_cache.proofs.entry.Entry.is_hard_expired.Goals as goal
 
--- with a limit of its own it is expired where that is over
+-- with a ttl of its own it is expired if that has passed
 limited : (t ttl ctime : ℕ) (over : Bool) → 0 < ttl → over ≡ nat_lt (ctime + ttl) t → over ≡ (nat_lt 0 ttl && nat_lt (ctime + ttl) t)
 limited t ttl ctime over some e = e ∙ sym (ap (λ (b : Bool). b && nat_lt (ctime + ttl) t) (lt-ltb 0 ttl some))
 
