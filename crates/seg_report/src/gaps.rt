@@ -10,12 +10,12 @@ ghost use Rattle.seg_report.specs.Lines.{fits_text, free_text, power_line};
 
 use crate::lines::{put_count, put_pair};
 use notation::ByteOut;
-use seg_words::{Segment, WordsIn};
+use seg_words::WordsIn;
 use sma_blocks::Sma;
 use std::alloc::AllocError;
 
 // How many blocks of `n` words the gaps hold, each cut up by itself, and how many gaps there are.
-pub(crate) fn count_gaps<S: Segment>(sma: &Sma, seg: &mut S, n: u32) -> (u32, u32)
+pub(crate) fn count_gaps<S: WordsIn>(sma: &Sma, seg: &mut S, n: u32) -> (u32, u32)
     requires some { 1 ≤ n }
     requires ready { IsReady sma.now (S.words seg.old) (S.aside seg.old) }
     ensures blocks { result.0 ≡ blocks_in n (free_runs_in sma.now.bounds (S.words seg.old)) }
@@ -35,7 +35,7 @@ pub(crate) fn count_gaps<S: Segment>(sma: &Sma, seg: &mut S, n: u32) -> (u32, u3
 }
 
 // What the free runs come to.
-pub(crate) fn put_free<S: Segment>(
+pub(crate) fn put_free<S: WordsIn>(
     sma: &Sma,
     seg: &mut S,
     out: &mut ByteOut,
@@ -54,7 +54,7 @@ pub(crate) fn put_free<S: Segment>(
 }
 
 // How many blocks fit of so many words as a power of two is, unless it is above the largest gap.
-fn put_power<S: Segment>(
+fn put_power<S: WordsIn>(
     sma: &Sma,
     seg: &mut S,
     bit: u32,
@@ -76,7 +76,7 @@ fn put_power<S: Segment>(
 }
 
 // How many blocks of each power of two fit.
-fn put_fits<S: Segment>(sma: &Sma, seg: &mut S, out: &mut ByteOut) -> Result<(), AllocError>
+fn put_fits<S: WordsIn>(sma: &Sma, seg: &mut S, out: &mut ByteOut) -> Result<(), AllocError>
     requires ready { IsReady sma.now (S.words seg.old) (S.aside seg.old) }
     ensures ok { OnOk result (out.new ≡ out.old
         ++ fits_text (free_runs_in sma.now.bounds (S.words seg.old))) }
