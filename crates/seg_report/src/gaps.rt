@@ -10,13 +10,13 @@ ghost use Rattle.seg_report.specs.Lines.{fits_text, free_text, power_line};
 
 use crate::lines::{put_count, put_pair};
 use notation::ByteOut;
-use seg_words::{Segment, WordsIn};
+use seg_words::WordsIn;
 use sma_blocks::Sma;
 use std::alloc::AllocError;
 
 // How many blocks of `n` words the gaps hold, if each is divided separately, and the number of
 // gaps.
-pub(crate) fn count_gaps<S: Segment>(sma: &Sma, seg: &mut S, n: u32) -> (u32, u32)
+pub(crate) fn count_gaps<S: WordsIn>(sma: &Sma, seg: &mut S, n: u32) -> (u32, u32)
     requires some { 1 ≤ n }
     requires ready { IsReady sma.now (S.words seg.old) (S.aside seg.old) }
     ensures blocks { result.0 ≡ blocks_in n (free_runs_in sma.now.bounds (S.words seg.old)) }
@@ -36,7 +36,7 @@ pub(crate) fn count_gaps<S: Segment>(sma: &Sma, seg: &mut S, n: u32) -> (u32, u3
 }
 
 // The sums over the free runs.
-pub(crate) fn put_free<S: Segment>(
+pub(crate) fn put_free<S: WordsIn>(
     sma: &Sma,
     seg: &mut S,
     out: &mut ByteOut,
@@ -55,7 +55,7 @@ pub(crate) fn put_free<S: Segment>(
 }
 
 // How many blocks of this power of two of words fit, unless it is above the largest gap.
-fn put_power<S: Segment>(
+fn put_power<S: WordsIn>(
     sma: &Sma,
     seg: &mut S,
     bit: u32,
@@ -77,7 +77,7 @@ fn put_power<S: Segment>(
 }
 
 // How many blocks of each power of two of words fit.
-fn put_fits<S: Segment>(sma: &Sma, seg: &mut S, out: &mut ByteOut) -> Result<(), AllocError>
+fn put_fits<S: WordsIn>(sma: &Sma, seg: &mut S, out: &mut ByteOut) -> Result<(), AllocError>
     requires ready { IsReady sma.now (S.words seg.old) (S.aside seg.old) }
     ensures ok { OnOk result (out.new ≡ out.old
         ++ fits_text (free_runs_in sma.now.bounds (S.words seg.old))) }

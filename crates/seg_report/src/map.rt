@@ -12,7 +12,7 @@ use crate::gaps::put_free;
 use crate::parts::put_parts;
 use cache_core::Core;
 use notation::ByteOut;
-use seg_words::{Segment, WordsIn};
+use seg_words::WordsIn;
 use std::alloc::{AllocError, Global};
 
 /// Appends the map of the cache's words: the line `map`, a line for the block of each row and each
@@ -23,7 +23,7 @@ use std::alloc::{AllocError, Global};
 /// Each row and removed row is read once, and the places of the removed rows are sorted. The gaps
 /// are walked for their lines, for their number, and once more for each power of two from 16 up to
 /// the largest.
-pub fn map_text<S: Segment>(
+pub fn map_text<S: WordsIn>(
     core: &mut Core,
     seg: &mut S,
     out: &mut ByteOut,
@@ -46,7 +46,7 @@ pub fn map_text<S: Segment>(
     }
 }
 
-fn put_map<S: Segment>(
+fn put_map<S: WordsIn>(
     alloc: Global,
     core: &mut Core,
     seg: &mut S,

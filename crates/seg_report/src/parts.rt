@@ -16,11 +16,11 @@ ghost use Rattle.seg_report.specs.PartWalks.{IsAtPart, WalksOn, size_if_at};
 use crate::lines::{put_entry, put_pair};
 use entry_slots::{EntrySlots, standing_laws};
 use notation::ByteOut;
-use seg_words::{Segment, WordsIn};
+use seg_words::WordsIn;
 use std::alloc::{AllocError, Global};
 
 // The places of the removed rows, by rising place.
-fn removed_places<S: Segment>(
+fn removed_places<S: WordsIn>(
     alloc: Global,
     slots: &EntrySlots,
     seg: &mut S,
@@ -42,7 +42,7 @@ fn removed_places<S: Segment>(
 }
 
 // The line of the entry at a place. Returns the number of words of its block.
-fn put_row<S: Segment>(
+fn put_row<S: WordsIn>(
     alloc: Global,
     slots: &EntrySlots,
     seg: &mut S,
@@ -84,7 +84,7 @@ fn size_if_at(gap: Option<(u32, u32)>, at: u32) -> u32
 
 // The line of the block at a place or of the gap that begins there; `gap` is the next gap. Returns
 // the number of its words, and the gap after it.
-fn put_part<S: Segment>(
+fn put_part<S: WordsIn>(
     alloc: Global,
     slots: &EntrySlots,
     seg: &mut S,
@@ -113,7 +113,7 @@ fn put_part<S: Segment>(
 }
 
 // The lines of all blocks and gaps, by rising place. Each begins where the one before ends.
-fn put_all<S: Segment>(
+fn put_all<S: WordsIn>(
     alloc: Global,
     slots: &EntrySlots,
     seg: &mut S,
@@ -140,7 +140,7 @@ fn put_all<S: Segment>(
 }
 
 // The lines of all blocks and free runs in the words.
-pub(crate) fn put_parts<S: Segment>(
+pub(crate) fn put_parts<S: WordsIn>(
     alloc: Global,
     slots: &EntrySlots,
     seg: &mut S,

@@ -8,7 +8,7 @@ ghost use Rattle.seg_report.specs.Fits.{HasRoomFor, blocks_in};
 
 use crate::gaps::count_gaps;
 use cache_core::Core;
-use seg_words::{Segment, WordsIn, fit_laws};
+use seg_words::{WordsIn, fit_laws};
 
 /// How many blocks of `n` words can be taken one after the other, until none fits any more. Nothing
 /// changes.
@@ -16,7 +16,7 @@ use seg_words::{Segment, WordsIn, fit_laws};
 /// Each is taken at the lowest place where it fits inside one segment, so the number is the sum
 /// over the free runs, each divided separately. It takes time in proportion to the gaps, and no
 /// memory.
-pub fn fits<S: Segment>(core: &mut Core, seg: &mut S, n: u32) -> u32
+pub fn fits<S: WordsIn>(core: &mut Core, seg: &mut S, n: u32) -> u32
     requires size { (n % 2 ≡ 0) × (2 ≤ n) }
     requires stand { CacheStands S.WordsIn core.old seg.old }
     ensures runs { result ≡ blocks_in n (gaps_of (cache_of core.old)) }
