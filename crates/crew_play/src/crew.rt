@@ -22,11 +22,11 @@ use io_edges::Gate;
 use notation::ByteOut;
 use pin_table::{Ended, EndedList, Pass, Passes, TableName};
 use row_search::Maker;
-use script_read::{Script, ScriptSteps, Scripts, scripts_cross};
+use script_read::{Script, Scripts, scripts_cross};
 use shared_cache::Shared;
 use std::sync::Wait;
 use std::thread::{Threads, join};
-use worker_play::{Context, Lines, PlayFault, play_out};
+use worker_play::{Context, PlayFault, play_out};
 
 // The pass of the last of the first `count` workers.
 pub(crate) fn last_pass<N: TableName>(passes: &mut Passes, count: u32) -> Pass
@@ -191,8 +191,7 @@ pub(crate) fn play_crew<
                 gate,
                 slots: conf.slots,
             };
-            let steps = ScriptSteps::of(script);
-            play_out(&context, maker, pass, steps, clock, Lines::Kept)
+            play_out(&context, conf, maker, pass, script, clock)
         },
     );
     let (first, mut ended, mut texts) = front;

@@ -1,8 +1,8 @@
 //! Generated scripts on one cache, and their summary.
 
 ghost use Rattle.std.specs.Prelude.{◌≡◌, ◌≢◌, ℕ, List, ◌+◌, ◌*◌, ◌<◌, ◌≤◌, [], Some, length};
-ghost use Rattle.std.specs.Prelude.{slice_get, slice_index, IfOk, IfErr, IsTrue, IsFalse, is_ok};
-ghost use Rattle.std.specs.Prelude.{◌&&◌};
+ghost use Rattle.std.specs.Prelude.{slice_get, slice_index, is_ok, ◌&&◌};
+ghost use Rattle.std.specs.Prelude.{IfOk, IfErr, IsTrue, IsFalse};
 ghost use Rattle.std.specs.Result.{result_ok};
 ghost use Rattle.std.specs.Thread.{IsSync};
 ghost use Rattle.apcu_model.specs.declared.conf.Clock.TheVariants.{Line};
@@ -36,7 +36,7 @@ use std::alloc::{AllocError, Global};
 use std::marker::Brand;
 use std::sync::Wait;
 use std::thread::{Threads, join};
-use worker_play::{Context, Lines, PlayFault, observe, play_lines, play_out};
+use worker_play::{Context, Lines, PlayFault, observe, play_lines, play_steps_out};
 
 /// The summary of a generated run.
 #[derive(Clone, Copy, Debug, PartialEq, Eq)]
@@ -170,7 +170,7 @@ fn play_drawn<
                 slots: conf.slots,
             };
             let steps = DrawnSteps::of(alloc, seed, workers, calls, before);
-            play_out(&context, maker, pass, steps, Clock::Line, Lines::Dropped)
+            play_steps_out(&context, maker, pass, steps, Clock::Line, Lines::Dropped)
         },
     );
     let (first, mut ended, all) = front;

@@ -15,11 +15,10 @@ use io_edges::Gate;
 use notation::ByteOut;
 use pin_table::{EndedList, Passes, TableName};
 use row_search::Maker;
-use script_read::ScriptSteps;
 use shared_cache::Shared;
 use std::sync::Wait;
 use std::thread::Threads;
-use worker_play::{Context, Lines, PlayFault, play_out};
+use worker_play::{Context, PlayFault, play_out};
 
 // When workers start.
 #[derive(Clone, Copy)]
@@ -76,8 +75,7 @@ pub(crate) fn play_all<
                 gate: cast.gate,
                 slots: cast.conf.slots,
             };
-            let steps = ScriptSteps::of(script);
-            let (end, text) = play_out(&context, cast.maker, pass, steps, cast.clock, Lines::Kept);
+            let (end, text) = play_out(&context, cast.conf, cast.maker, pass, script, cast.clock);
             let first = Some(end);
             let (first, mut ended, mut texts) = play_crew(
                 rt, cast, shared, passes, ended, texts, first, before,

@@ -18,6 +18,6 @@ mod searching;
 mod walks;
 
 pub use context::Context;
-pub use ending::play_out;
+pub use ending::{play_out, play_steps_out};
 pub use looks::observe;
 pub use script::{Lines, PlayFault, play_lines, play_script};

@@ -1,13 +1,10 @@
-use Rattle.std.proofs.Common.{◌≡◌, ◌-◌, ◌≤◌, sym, subst, arith, suc, ℕ, List, length, ◌∙◌}
-use Rattle.std.specs.Prelude.{Some, IfErr}
+use Rattle.std.proofs.Common.{◌≡◌, ◌-◌, ◌≤◌, sym, subst, arith, suc, ℕ, length, ◌∙◌}
+use Rattle.std.specs.Prelude.{Some}
 use Rattle.std.specs.Result.{result_ok}
 use Rattle.pin_table.specs.Values.{PassView}
-use Rattle.script_read.specs.declared.script.Step.{Step}
 use Rattle.script_read.specs.Clock.{timed, all_timed}
-use Rattle.script_read.specs.Patterns.{HasRefusable}
 use Rattle.worker_play.specs.Ends.{Ends}
 use Rattle.worker_play.specs.declared.script.Lines.TheVariants.{Kept}
-use Rattle.worker_play.specs.declared.script.PlayFault.TheVariants as faults
 use Rattle.crew_play.specs.Crew.{AllEnd, EndsBefore}
 use Rattle.crew_play.proofs.Crews.{all_with, refusable_with}
 use Rattle.crew_play.proofs.FirstEvents.{last_ends_first}
@@ -36,7 +33,7 @@ returns-in-Some-clause-all g c =
     let same : end ≡ c.play_out-end.result.0 = cc (found) in
     let one : Ends table conf n Kept (timed clock script) c.play_out-end.result.0 (result_ok text) =
     subst (λ w. Ends table conf w Kept (timed clock script) c.play_out-end.result.0 (result_ok text)) c.last_worker-pass.ensures.worker
-    (subst (λ (l : List Step). Ends table conf c.last_worker-pass.result.0.known.worker Kept (timed clock l) c.play_out-end.result.0 (result_ok text)) c.of-steps.ensures c.play_out-end.ensures.ends) in
+    c.play_out-end.ensures.ends in
     all_with table conf clock scripts n (length scripts) front.1.ended c.push.new.self.ended front.2.items c.push_reserved.new.self.items script end text
     count c.last_worker-pass.ensures.script c.play_crew-first.ensures.all (subst (λ (b : PassView). Ends table conf n Kept (timed clock script) b (result_ok text)) (sym same) one) c.push.ensures.ended c.push_reserved.ensures.items
 
@@ -45,7 +42,7 @@ returns-in-Some-clause-pattern g c =
     let front = c.play_crew-first.result in
     refusable_with (g.M.Maker.may_refuse c.args.cast.now.maker.now) c.args.cast.now.scripts.now (c.len-count.result - 1) front.2.items c.push_reserved.new.self.items c.last_worker-pass.result.1.now c.play_out-end.result.1
     c.last_worker-pass.ensures.script c.play_crew-first.ensures.pattern
-    (subst (λ (l : List Step). IfErr c.play_out-end.result.1 (λ e. e ≡ faults.Pattern → HasRefusable (g.M.Maker.may_refuse c.args.cast.now.maker.now) l)) c.of-steps.ensures c.play_out-end.ensures.pattern) c.push_reserved.ensures.items
+    c.play_out-end.ensures.pattern c.push_reserved.ensures.items
 
 pub returns-in-Some-clause-first : goal.returns-in-Some-clause-first
 returns-in-Some-clause-first g c = λ _.
