@@ -18,7 +18,7 @@ use apcu_model::List;
 use cache_core::Core;
 use entry_slots::{EntrySlots, Head, standing_laws};
 use row_search::{RowTest, Search, head_at};
-use seg_words::{Segment, WordsIn};
+use seg_words::WordsIn;
 use std::alloc::AllocError;
 
 /// What rows come to. Each number stays at its last one once there.
@@ -69,7 +69,7 @@ impl Sums {
 }
 
 // With the row at a place, if it is chosen.
-fn add_row<S: Segment>(
+fn add_row<S: WordsIn>(
     slots: &EntrySlots,
     seg: &mut S,
     test: &mut RowTest<'_>,
@@ -90,7 +90,7 @@ fn add_row<S: Segment>(
 }
 
 // What the rows of a slot come to.
-fn add_slot<S: Segment>(
+fn add_slot<S: WordsIn>(
     slots: &EntrySlots,
     seg: &mut S,
     test: &mut RowTest<'_>,
@@ -117,7 +117,7 @@ fn add_slot<S: Segment>(
 }
 
 // What the rows of all slots come to.
-fn add_active<S: Segment>(
+fn add_active<S: WordsIn>(
     slots: &EntrySlots,
     seg: &mut S,
     test: &mut RowTest<'_>,
@@ -137,7 +137,7 @@ fn add_active<S: Segment>(
 }
 
 // What the removed rows come to.
-fn add_removed<S: Segment>(
+fn add_removed<S: WordsIn>(
     slots: &EntrySlots,
     seg: &mut S,
     test: &mut RowTest<'_>,
@@ -162,7 +162,7 @@ fn add_removed<S: Segment>(
 }
 
 // What the rows of a list come to.
-fn add_all<S: Segment>(
+fn add_all<S: WordsIn>(
     slots: &EntrySlots,
     seg: &mut S,
     test: &mut RowTest<'_>,
@@ -186,7 +186,7 @@ fn add_all<S: Segment>(
 ///
 /// It takes as long as there are slots and rows. Matching takes memory from the search's allocator,
 /// and its want is the only refusal.
-pub fn totals<S: Segment>(
+pub fn totals<S: WordsIn>(
     core: &mut Core,
     seg: &mut S,
     search: &mut Search,
