@@ -11,11 +11,11 @@ ghost use Rattle.row_search.specs.Choices.{chosen_items};
 use apcu_model::{Fields, ItemRow};
 use entry_slots::{EntrySlots, standing_laws};
 use row_search::{RowTest, item_at};
-use seg_words::{Segment, WordsIn};
+use seg_words::WordsIn;
 use std::alloc::{AllocError, Global};
 
 // Appends the item of the row at a place, if the row is chosen.
-fn add_item<S: Segment>(
+fn add_item<S: WordsIn>(
     alloc: Global,
     slots: &EntrySlots,
     seg: &mut S,
@@ -38,7 +38,7 @@ fn add_item<S: Segment>(
 }
 
 // The same for the rows of a slot, in the order of the chain.
-pub(crate) fn list_slot<S: Segment>(
+pub(crate) fn list_slot<S: WordsIn>(
     alloc: Global,
     slots: &EntrySlots,
     seg: &mut S,
@@ -67,7 +67,7 @@ pub(crate) fn list_slot<S: Segment>(
 }
 
 // The items of the removed rows, in the order in which they were dropped.
-pub(crate) fn list_removed<S: Segment>(
+pub(crate) fn list_removed<S: WordsIn>(
     alloc: Global,
     slots: &EntrySlots,
     seg: &mut S,

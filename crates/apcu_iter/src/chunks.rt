@@ -13,11 +13,11 @@ use apcu_model::{Chunk, Fields, Items, List};
 use cache_core::Core;
 use entry_slots::EntrySlots;
 use row_search::{RowTest, Search};
-use seg_words::{Segment, WordsIn};
+use seg_words::WordsIn;
 use std::alloc::{AllocError, Global};
 
 // Walks over the slots from one on until there are enough items, or to the last slot.
-fn active_chunk<S: Segment>(
+fn active_chunk<S: WordsIn>(
     alloc: Global,
     slots: &EntrySlots,
     seg: &mut S,
@@ -53,7 +53,7 @@ fn active_chunk<S: Segment>(
 }
 
 // Walks over all removed rows.
-fn removed_chunk<S: Segment>(
+fn removed_chunk<S: WordsIn>(
     alloc: Global,
     slots: &EntrySlots,
     seg: &mut S,
@@ -85,7 +85,7 @@ fn removed_chunk<S: Segment>(
 /// It takes time in proportion to the slots and rows that it passes, whatever `size` is. The
 /// matcher is made before anything else. A value is copied only if `fields` selects it. Out of
 /// memory is the only error.
-pub fn chunk<S: Segment>(
+pub fn chunk<S: WordsIn>(
     alloc: Global,
     core: &mut Core,
     seg: &mut S,

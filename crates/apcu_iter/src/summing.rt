@@ -18,7 +18,7 @@ use apcu_model::List;
 use cache_core::Core;
 use entry_slots::{EntrySlots, Head, standing_laws};
 use row_search::{RowTest, Search, head_at};
-use seg_words::{Segment, WordsIn};
+use seg_words::WordsIn;
 use std::alloc::AllocError;
 
 /// Totals over rows. Each number stops at its maximum.
@@ -69,7 +69,7 @@ impl Sums {
 }
 
 // With the row at a place, if it is chosen.
-fn add_row<S: Segment>(
+fn add_row<S: WordsIn>(
     slots: &EntrySlots,
     seg: &mut S,
     test: &mut RowTest<'_>,
@@ -90,7 +90,7 @@ fn add_row<S: Segment>(
 }
 
 // The totals of the rows of a slot.
-fn add_slot<S: Segment>(
+fn add_slot<S: WordsIn>(
     slots: &EntrySlots,
     seg: &mut S,
     test: &mut RowTest<'_>,
@@ -117,7 +117,7 @@ fn add_slot<S: Segment>(
 }
 
 // The totals of the rows of all slots.
-fn add_active<S: Segment>(
+fn add_active<S: WordsIn>(
     slots: &EntrySlots,
     seg: &mut S,
     test: &mut RowTest<'_>,
@@ -137,7 +137,7 @@ fn add_active<S: Segment>(
 }
 
 // The totals of the removed rows.
-fn add_removed<S: Segment>(
+fn add_removed<S: WordsIn>(
     slots: &EntrySlots,
     seg: &mut S,
     test: &mut RowTest<'_>,
@@ -162,7 +162,7 @@ fn add_removed<S: Segment>(
 }
 
 // The totals of the rows of a list.
-fn add_all<S: Segment>(
+fn add_all<S: WordsIn>(
     slots: &EntrySlots,
     seg: &mut S,
     test: &mut RowTest<'_>,
@@ -185,7 +185,7 @@ fn add_all<S: Segment>(
 ///
 /// It takes time in proportion to the slots and rows. Matching takes memory from the search's
 /// allocator, and out of memory is the only error.
-pub fn totals<S: Segment>(
+pub fn totals<S: WordsIn>(
     core: &mut Core,
     seg: &mut S,
     search: &mut Search,

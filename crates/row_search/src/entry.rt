@@ -19,7 +19,7 @@ use crate::row_test::RowTest;
 use apcu_model::{Fields, ItemRow};
 use entry_slots::{EntrySlots, Head, standing_laws};
 use php_graph::{Bytes, Graph};
-use seg_words::{Segment, WordsIn};
+use seg_words::WordsIn;
 use std::alloc::{AllocError, Global};
 use value_image::unpersist;
 
@@ -75,7 +75,7 @@ fn item(key: Vec<u8>, value: Option<Graph>, head: Head) -> ItemRow
 }
 
 // The item of the row at a place, if the row is chosen.
-pub fn item_at<S: Segment>(
+pub fn item_at<S: WordsIn>(
     alloc: Global,
     slots: &EntrySlots,
     seg: &mut S,
@@ -106,7 +106,7 @@ pub fn item_at<S: Segment>(
 
 // The first words of the row at a place, if it is chosen. The key is read only if not each key
 // matches.
-pub fn head_at<S: Segment>(
+pub fn head_at<S: WordsIn>(
     slots: &EntrySlots,
     seg: &mut S,
     test: &mut RowTest<'_>,
