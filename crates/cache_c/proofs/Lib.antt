@@ -4,7 +4,6 @@ pub mod Lookups
 pub mod RefusedSeats
 pub mod RowLists
 pub mod Seats
-pub mod SingleValues
 pub mod Standing
 pub mod Steps
 pub mod ToldGaps

@@ -311,13 +311,13 @@ impl Cache {
             (store_if_value key.now ttl exclusive (scalar_value kind number))
             (plain_answer result) }
     {
-        let Some(value) = scalar_from(self.alloc, kind, number) else {
+        let Some(value) = scalar_from(kind, number) else {
             return BAD;
         };
         self.begin();
         let answer = self
             .core
-            .store_in(&mut self.words, key, slot, &value, ttl, exclusive, t);
+            .store_content(&mut self.words, key, slot, &value, ttl, exclusive, t);
         stored(answer)
     }
 

@@ -140,9 +140,9 @@ impl Core {
         self.store_content(seg, key, slot, &content, ttl, exclusive, t)
     }
 
-    // Stores a graph, or a byte string as a graph; `slot` is that of the key. It is the first
-    // insertion of its event.
-    fn store_content<S: Segment>(
+    /// Stores the graph that `content` represents, as `store` does; `slot` is that of the key. No
+    /// graph is made of a scalar or a byte string.
+    pub fn store_content<S: Segment>(
         &mut self,
         seg: &mut S,
         key: &[u8],

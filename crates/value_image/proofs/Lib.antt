@@ -14,3 +14,4 @@ pub mod Counts
 pub mod ScalarGraphs
 pub mod Texts
 pub mod SingleTexts
+pub mod SingleScalars

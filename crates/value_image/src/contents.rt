@@ -1,7 +1,7 @@
-//! The content of an image: a graph, or a byte string without a graph.
+//! The content of an image: a graph, or a scalar or a byte string without a graph.
 
 ghost use Rattle.std.specs.Prelude.{◌≡◌, ◌<◌, ◌^◌, [], ◌∷◌, length};
-ghost use Rattle.php_graph.specs.declared.kind.Kind.TheVariants.{Str};
+ghost use Rattle.php_graph.specs.declared.kind.Kind.TheVariants as kinds;
 ghost use Rattle.php_graph.specs.Graph.{IsGraph};
 ghost use Rattle.php_graph.specs.Size.{block_size, image_length};
 ghost use Rattle.seg_words.specs.Kept.{KeptBeside};
@@ -9,8 +9,8 @@ ghost use Rattle.value_image.specs.Image.{image_of};
 ghost use Rattle.value_image.specs.Rows.{written, MayWrite};
 ghost use Rattle.value_image.specs.Contained.{graph_of};
 
-use crate::write::persist;
-use crate::write_members::put_text;
+use crate::write::{BOOL, NULL, persist};
+use crate::write_members::{INT, put_one, put_text, put_two};
 use php_graph::Graph;
 use seg_words::{HEAD_WORDS, Segment, words_in};
 
@@ -21,12 +21,18 @@ pub enum Content<'a> {
     Graph(&'a Graph),
     /// A byte string, without a graph.
     Text(&'a [u8]),
+    /// Null.
+    Null,
+    /// A boolean.
+    Bool(bool),
+    /// An integer.
+    Int(i64),
 }
 
 /// A byte string as the content of an image.
 pub fn text_content(bytes: &[u8]) -> Content<'_>
     requires short { length bytes.now < 2 ^ 32 }
-    ensures text { graph_of result ≡ Str bytes.now ∷ [] }
+    ensures text { graph_of result ≡ kinds.Str bytes.now ∷ [] }
     ensures graph { IsGraph (graph_of result) }
 {
     Content::Text(bytes)
@@ -41,6 +47,8 @@ pub fn content_words(content: &Content<'_>) -> u64
     match content {
         Content::Graph(g) => g.words(),
         Content::Text(bytes) => 1 + u64::from(words_in(bytes.len() as u32)),
+        Content::Null | Content::Bool(_) => 1,
+        Content::Int(_) => 2,
     }
 }
 
@@ -67,6 +75,15 @@ pub fn persist_content<S: Segment>(seg: &mut S, at: u32, content: &Content<'_>)
         Content::Graph(g) => persist(seg, at, g),
         Content::Text(bytes) => {
             put_text(seg, at, bytes);
+        }
+        Content::Null => {
+            put_one(seg, at, NULL);
+        }
+        Content::Bool(truth) => {
+            put_one(seg, at, BOOL + 8 * u64::from(*truth));
+        }
+        Content::Int(number) => {
+            put_two(seg, at, INT, number.cast_unsigned());
         }
     }
 }
