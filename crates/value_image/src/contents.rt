@@ -14,7 +14,8 @@ use crate::write_members::{INT, put_one, put_text, put_two};
 use php_graph::Graph;
 use seg_words::{HEAD_WORDS, Segment, words_in};
 
-/// The content of an image. A byte string stands for the graph that has it as its only place.
+/// The content of an image. A scalar or a byte string represents the graph that has it as its only
+/// place.
 #[derive(Clone, Copy, Drop)]
 pub enum Content<'a> {
     /// The places of a graph.
