@@ -2,8 +2,10 @@
 
 ghost use Rattle.std.specs.Prelude.{◌≡◌, ℕ, ◌+◌, ◌<◌, ◌≤◌, IfOk};
 ghost use Rattle.php_graph.specs.Building.{item_fits};
+ghost use Rattle.php_graph.specs.Graph.{IsGraph};
 ghost use Rattle.php_graph.specs.Size.{image_length};
 ghost use Rattle.seg_words.specs.Blocks.{IsTold};
+ghost use Rattle.value_image.specs.Contained.{graph_of};
 ghost use Rattle.value_image.specs.Rows.{MayWrite};
 
 use php_graph::{Builder, Bytes, Graph, Item, Key, Wants};
@@ -12,9 +14,9 @@ use std::alloc::{AllocError, Global};
 use std::process::Abort;
 use std::test::Fail;
 use value_image::{
-    bytes_are_packed, content_block_words, content_words, get_bytes, images_are_runs,
-    images_differ, persist, persist_content, put_bytes, runs_are_written, runs_stand, text_content,
-    unpersist,
+    Content, bool_content, bytes_are_packed, content_block_words, content_words, get_bytes,
+    images_are_runs, images_differ, int_content, null_content, persist, persist_content, put_bytes,
+    runs_are_written, runs_stand, text_content, unpersist,
 };
 
 // A step in writing a value.
@@ -317,6 +319,41 @@ fn writes_bytes_without_a_graph(rt: HostRuntime) -> Result<(), Fail> {
         assert_eq!(rt; content_block_words(9, &content), block);
     }
     Ok(())
+}
+
+// A scalar of which no graph is made has this image, written with a word before it and one behind
+// it, and its block with a key of nine bytes takes 16 words.
+fn has_image(
+    rt: &impl Abort,
+    alloc: Global,
+    content: &Content<'_>,
+    words: &[u64],
+) -> Result<(), Fail>
+    requires { IsGraph (graph_of content.now) }
+{
+    let image = content_words(content);
+    assert!(rt; image < 3);
+    let mut row = VecWords::new(alloc, image as u32 + 2)?;
+    persist_content(&mut row, 1, content);
+    assert_eq!(rt; row.into_words().as_slice(), words);
+    assert_eq!(rt; content_block_words(9, content), 16);
+    Ok(())
+}
+
+#[test]
+fn writes_scalars_without_a_graph(rt: HostRuntime) -> Result<(), Fail> {
+    let alloc = rt.alloc();
+    has_image(&rt, alloc, &null_content(), &[0, 0, 0])?;
+    has_image(&rt, alloc, &bool_content(false), &[0, 1, 0])?;
+    has_image(&rt, alloc, &bool_content(true), &[0, 9, 0])?;
+    has_image(&rt, alloc, &int_content(0), &[0, 2, 0, 0])?;
+    has_image(
+        &rt,
+        alloc,
+        &int_content(-1),
+        &[0, 2, 18_446_744_073_709_551_615, 0],
+    )?;
+    has_image(&rt, alloc, &int_content(1_234_567), &[0, 2, 1_234_567, 0])
 }
 
 #[test]
