@@ -1,22 +1,22 @@
 #!/usr/bin/env bash
 # SPDX-License-Identifier: MIT
-# What the speed of this cache is to be, beside PHP's APCu in the same run, as one table with the ratio (ours / PHP's)
-# first. A goal is of the ratio, of our own figure, or of ours / the floor:
-# - generated runs of one and of four workers, and of 64 beside four;
-# - a million calls from a script to its output, beside PHP's loop;
+# The goals for the speed of this cache, compared with PHP's APCu in the same run, as one table with the ratio (ours /
+# PHP's) first. A goal is of the ratio, of our own figure, or of ours / the floor:
+# - generated runs of one and of four workers, and of 64 compared with four;
+# - a million calls from a script to its output, compared with PHP's loop;
 # - fetches that are printed whole; their floor is a program in C that holds its output likewise (floor/fetch.c);
-# - stores of texts that change, without what as many lines take that are read and find the row; they have no goal,
+# - stores of texts that change, less the time of as many lines that are read and find the row; they have no goal,
 #   since each changed word is one locked instruction;
-# - stores of new rows where four fifths of 32 MB are taken, over words in memory and without a lock on our side; what
-#   one in 10,000 passes is less the longest turn of an empty loop in its round, which is the host's (floor/turns.c);
+# - stores of new rows when four fifths of 32 MB are taken, over words in memory and without a lock on our side; the time
+#   that one in 10,000 exceeds, less the longest turn of an empty loop in its round, which is the host's (floor/turns.c);
 # - a limited cache_info, and key_info, over words in memory and without a lock too.
 # generate/run.sh, play/run.sh and cache/run.sh, which have these parts in common with this script, say how each figure
-# is measured. Each time is the least of three rounds, in each of which ours, PHP's and the floor are measured in turn;
-# a round is kept only where the machine is quiet before and after it (quiet.sh).
+# is measured. Each time is the lowest of three rounds, in each of which ours, PHP's and the floor are measured in turn;
+# a round is kept only if the machine is quiet before and after it (quiet.sh).
 # Usage: bench/goals.sh PROGRAM BENCH, where PROGRAM is the built apcu_run and BENCH the built apcu_bench; it needs php
 # with apcu and pcntl, and cc. BEFORE=PROGRAM and BEFORE_BENCH=BENCH in the environment are measured in turn with them,
-# as a column, and DIVIDE=N makes so many times fewer calls, which tries the script alone. It takes a few minutes, and
-# up to five more where it waits for a quiet machine.
+# as a column, and DIVIDE=N makes one N-th of the calls, which only tests the script. It takes a few minutes, and
+# up to five more if it waits for a quiet machine.
 set -eu -o pipefail
 here=$(cd "$(dirname "${BASH_SOURCE[0]}")" && pwd)
 [ $# = 2 ] || { echo "usage: $0 PROGRAM BENCH" >&2; exit 1; }
@@ -37,7 +37,7 @@ for each in "$program" "$bench" ${BEFORE:+"$BEFORE"} ${BEFORE_BENCH:+"$BEFORE_BE
 done
 for each in fetch turns; do cc -std=gnu11 -O3 -Wall -Wextra -Wpedantic "$here/floor/$each.c" -o "$scratch/$each"; done
 
-# So many calls, or the part of them that is wanted.
+# This many calls, or the part of them that is wanted.
 part() { echo $((($1 + divide - 1) / divide)); }
 
 # What is measured in turn: of our program, of the one before, and of PHP, each as many numbers. They are pairs, of
@@ -59,10 +59,10 @@ generated_in_turn() {
 }
 
 # Writes a row of the table: what was measured, its unit and places, its goal (`ratio N`, `ours N`, `floor N`, or
-# `none`), and the figures of us, before, of PHP, and of the floor where there is one.
+# `none`), and the figures of us, before, of PHP, and of the floor if there is one.
 row() { printf '%s|' "$@" >>"$scratch/rows" && echo >>"$scratch/rows"; }
 
-# Of the pairs in `found` number K of us, before, of PHP, and of the floor where there are four sides: the first less
+# Of the pairs in `found` number K of us, before, of PHP, and of the floor if there are four sides: the first less
 # the second, divided by a number.
 figures() {
     awk -v k="$1" -v unit="${2:-1}" -v sides="${3:-3}" '{
@@ -127,14 +127,14 @@ for line in '10 KB 10000 4000' '64 KB 65536 600' '1 MB 1000000 40'; do
     row "a store of $size $unit that changes all words" us 2 none "$(figures 1 "$calls")"
 done
 
-# One round of this work over so many rows or slots, each line with its side before it.
+# One round of this work over this many rows or slots, each line with its side before it.
 cache_round() {
     cache_lines ours "$bench" "$1" "$2"
     if [ -n "${BEFORE_BENCH:-}" ]; then cache_lines before "$BEFORE_BENCH" "$1" "$2"; fi
     cache_work_php "$@" | sed 's/^/php /'
 }
 
-# The figures of this name, less those of another one or of none, in so many picoseconds.
+# The figures of this name, less those of another one or of none, in this many picoseconds.
 cache_figures() {
     local side
     for side in ours before php; do cache_least "$side" "$@" <"$scratch/kept"; done | paste -sd '|'

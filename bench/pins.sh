@@ -1,18 +1,18 @@
 #!/bin/sh
 # SPDX-License-Identifier: MIT
-# Nanoseconds a word of ways to go over the same text of 64 KB.
+# Nanoseconds a word of ways to read the same text of 64 KB.
 #   loads   a load of each word of its pinned block, summed: single steps that other threads see
-#   stores  the same loads, each stored into memory that is there
-#   memory  memory for the text, taken and let go, with nothing written
+#   stores  the same loads, each stored into existing memory
+#   memory  memory for the text, allocated and freed, with nothing written
 #   fetch   a fetch that copies it through the block's image into a graph of its own, memory included
-#   read    the same fetch from words in memory that nobody shares
+#   read    the same fetch from words in memory that are not shared
 # Loads and stores are in functions of their own, which have the table behind a reference, as a worker has it. The
-# works take turns, 15 times: each figure is the median. What the copy costs, the fetch less the memory, is divided by
-# the loads and by the stores of the same turn, since the processor's speed changes from turn to turn; of these the
-# median too.
+# works take turns, 15 times: each figure is the median. The cost of the copy, the fetch less the memory, is divided by
+# the loads and by the stores of the same turn, since the processor's speed changes from turn to turn; these are
+# medians too.
 #
-# A line for each of eight distances from the block to the memory that is handed out, evenly over 4 KB: that memory is
-# further off by so many spare words behind the block. Where it is a multiple of 4 KB and a few words more, as with
+# A line for each of eight distances from the block to the memory that is allocated, evenly over 4 KB: that memory is
+# further away by this many spare words after the block. If it is a multiple of 4 KB and a few words more, as with
 # none, a load waits for stores before it that the processor takes for ones to the same word. The last line is the mean.
 # Usage: bench/pins.sh PROGRAM, where PROGRAM is the built apcu_bench.
 set -eu

@@ -14,7 +14,7 @@ spent() {
     done | awk '{ t = ($1 + $2) * 1e9; if (NR == 1 || t < best) best = t } END { printf "%.0f\n", best }'
 }
 
-# The time of one round of this work over so many units.
+# The time of one round of this work over this many units.
 round() {
     base=$(spent "$program" image "$1" "$2" 0)
     full=$(spent "$program" image "$1" "$2" "$3")

@@ -1,11 +1,11 @@
 #!/usr/bin/env bash
 # SPDX-License-Identifier: MIT
-# Plays each case of docs/differences/ on PHP's APCu and on the program, and tells each that prints something else than
-# its folder says. Where several workers meet, what stands there is judged as an output of the case's script, and so is
-# what the program prints of it. With the extension, SO, it plays the PHP of each case there too: it prints what APCu
-# prints in just the cases that say so. The page that is made of the cases has to be up to date. With --program the
-# program's side alone is played, which needs no PHP.
-# Usage: checks/differences.sh [--program] [PROGRAM [SO]]; else it needs php with apcu and pcntl, and with SO php-dev.
+# Plays each case of docs/differences/ on PHP's APCu and on the program, and reports each whose output is not the one in
+# its folder. If several workers meet, the output in the folder is judged as an output of the case's script, and so is
+# that of the program. With the extension, SO, it plays the PHP of each case there too: it prints what APCu
+# prints exactly in the cases that say so. The page that is made of the cases has to be up to date. With --program only
+# the program's side is played, which needs no PHP.
+# Usage: checks/differences.sh [--program] [PROGRAM [SO]]; without --program it needs php with apcu and pcntl, and with SO php-dev.
 set -eu
 of_program=''
 if [ "${1:-}" = --program ]; then
@@ -53,7 +53,7 @@ judge() {
     cat "$1/case.apcu" "$2" | "$program" "${options[@]}" --verify "$(wc -c <"$1/case.apcu")" 2>&1 || true
 }
 
-# Tells of a case and a side what it prints beside what it has to.
+# Reports for a case and a side what it prints, and what it should.
 tell() {
     others=$((others + 1))
     echo "${1##*/}: $2 prints something else" >&2

@@ -1,6 +1,6 @@
 #!/usr/bin/env bash
 # SPDX-License-Identifier: MIT
-# The commands of the pages of examples/ print what stands there behind them.
+# The commands of the pages of examples/ print the output that follows them.
 # Usage: checks/examples.sh [PROGRAM], where PROGRAM is the built apcu_run; it needs php with apcu and pcntl.
 set -eu
 here=$(cd "$(dirname "${BASH_SOURCE[0]}")" && pwd)

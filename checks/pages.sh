@@ -21,7 +21,7 @@ tell() {
     others=1
 }
 
-# The lines of README between two, without their four spaces, stand in a file as they are, but for where they begin.
+# The lines of README between two, without their four spaces, are in a file as they are, except for where they begin.
 shown() {
     local from=$1 to=$2 file=$3 lines
     lines=$(sed -n "/^    $from/,/$to/p" README.md | sed 's/^ *//')
@@ -31,7 +31,7 @@ text = "\n".join(line.strip() for line in open(sys.argv[2], encoding="utf-8"))
 sys.exit(sys.argv[1] not in text)' "$lines" "$file" || tell "README.md shows otherwise than $file: $from"
 }
 
-# Links and paths of all pages, but for what is built.
+# Links and paths of all pages, except for what is built.
 lead_to_files() {
     python3 - <<'PYTHON'
 import glob, os, re, sys

@@ -1,8 +1,8 @@
 <?php // SPDX-License-Identifier: MIT
-// What PHP's APCu takes for the calls that apcu_bench measures, under the same keys and with the same values. With
-// ROWS it prints for each kind of call several times the picoseconds of one, and how many calls did not answer false;
-// with `clear ROWS` that of dropping all rows, and of dropping them because their time is over, and with `info ROWS`
-// that of telling of them.
+// The time of PHP's APCu for the calls that apcu_bench measures, under the same keys and with the same values. With
+// ROWS it prints for each kind of call several times the picoseconds of one, and how many calls did not return false;
+// with `clear ROWS` that of dropping all rows, and of dropping them because they have expired, and with `info ROWS`
+// that of the information calls.
 // Run with: php -d apc.enable_cli=1 -d apc.shm_size=.. -d apc.entries_hint=ROWS apcu.php [clear|info] ROWS
 
 const BATCH = 10000;

@@ -1,7 +1,7 @@
 <?php // SPDX-License-Identifier: MIT
-// What `run.sh` measures of stores into a cache that is kept at four fifths: before each store of a new row random rows
-// are deleted until it finds room below that. Prints the median of so many stores and the times that one in a hundred,
-// in a thousand and in ten thousand pass, in picoseconds.
+// What `run.sh` measures of stores into a cache that is kept four fifths full: before each store of a new row random rows
+// are deleted until there is room for it below that. Prints the median of STORES stores and the times that one in a
+// hundred, in a thousand and in ten thousand exceeds, in picoseconds.
 // Usage: php -d apc.enable_cli=1 -d apc.shm_size=32M -d apc.entries_hint=SLOTS churn.php STORES
 mt_srand(7);
 $stores = (int) $argv[1];

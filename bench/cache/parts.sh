@@ -2,12 +2,12 @@
 # What calls of the cache over words in memory take, ours and PHP's; run.sh and goals.sh read this file. They set
 # `scratch`, a folder of their own, and read quiet.sh before.
 
-# What a built apcu_bench prints of this work over so many rows or slots, each line with its side before it.
+# What a built apcu_bench prints of this work over this many rows or slots, each line with its side before it.
 cache_lines() {
     "$2" cache "$3" "$4" "${SEGMENTS:-1}" | sed "s/^/$1 /"
 }
 
-# What PHP measures on a segment of so many megabytes and with so many slots.
+# What PHP measures on a segment of this many megabytes and with this many slots.
 cache_php() {
     local size=$1 slots=$2 script=$3
     shift 3
@@ -24,8 +24,8 @@ cache_work_php() {
     esac
 }
 
-# Of lines `SIDE NAME TIME ..` the least time of a side and name in a unit of so many picoseconds, less that of the name
-# `base`, if there is one; `-` where there is none.
+# Of lines `SIDE NAME TIME ..` the lowest time of a side and name in a unit of this many picoseconds, less that of the name
+# `base`, if there is one; `-` if there is none.
 cache_least() {
     awk -v side="$1" -v name="$2" -v base="$3" -v unit="$4" '
         $1 != side { next }

@@ -1,19 +1,18 @@
 #!/usr/bin/env bash
 # SPDX-License-Identifier: MIT
-# Nanoseconds a call of the cache over words in memory at 1,000, 100,000 and 1,000,000 rows, with as many slots; beside
-# it in the same run PHP's APCu where it is installed, with as many. Of ten rows one has a text of 8 bytes, one a text
-# of 100, and eight a truth value; the calls go over all keys of a text, each time in another random order. `replace`
-# stores over a row, `store` and `add` make one; `add_there` finds a row and answers false, `exists_not` finds none. A
-# fetch copies the text out, `fetch_int` answers an integer. An entry finds a row (`entry_there`) or makes one; its
-# generator is made for each call, where PHP's is a closure that is there. Each figure is the least of the batches of
-# 10,000 calls or less of several runs of both, without what a loop takes that makes the key alone. Then milliseconds of
-# dropping 100,000 rows that fill a cache: by a clear, and by a store that finds no room while all rows' time is over;
-# and of telling of 10,000 rows, of which each tenth left a gap. At last microseconds of a store of a new row, with a
-# text of 16 to 2,000 bytes, in 32 MB of which four fifths are taken: the median, and what one in a hundred, in a
-# thousand and in ten thousand passes. A round is kept only where the machine is quiet (quiet.sh).
+# Nanoseconds a call of the cache over words in memory at 1,000, 100,000 and 1,000,000 rows, with as many slots, compared
+# in the same run with PHP's APCu, if it is installed, with as many. Of ten rows one has a text of 8 bytes, one a text
+# of 100, and eight a boolean; the calls use all keys of a text, each time in another random order. `replace`
+# stores over a row, `store` and `add` make one; `add_there` finds a row and returns false, `exists_not` finds none. A
+# fetch copies the text out, `fetch_int` returns an integer. An entry finds a row (`entry_there`) or makes one; its
+# generator is made for each call, where PHP has an existing closure. Each figure is the lowest of the batches of
+# at most 10,000 calls of several runs of both, less that of a loop that only makes the keys. Then milliseconds of
+# dropping 100,000 rows that fill a cache: by a clear, and by a store that finds no room after all rows have expired;
+# and of information about 10,000 rows, of which each tenth left a gap. In the end microseconds of a store of a new row,
+# with a text of 16 to 2,000 bytes, in 32 MB of which four fifths are taken: the median, and the times that one in a
+# hundred, in a thousand and in ten thousand exceeds. A round is kept only if the machine is quiet (quiet.sh).
 # Usage: bench/cache/run.sh [PROGRAM [RUNS [ROWS..]]], where PROGRAM is the built apcu_bench. SEGMENTS=N in the
-# environment cuts our words into so many segments, and DIVIDE=N makes so many times fewer rows, which tries the script
-# alone.
+# environment divides our words into N segments, and DIVIDE=N uses one N-th of the rows, which only tests the script.
 set -eu -o pipefail
 here=$(cd "$(dirname "${BASH_SOURCE[0]}")" && pwd)
 program=${1:-$here/../../crates/apcu_bench/out/apcu_bench}
@@ -28,14 +27,14 @@ divide=${DIVIDE:-1}
 php=
 if php_has apcu; then php=php; fi
 
-# One round of this work over so many rows or slots, each line with its side before it.
+# One round of this work over this many rows or slots, each line with its side before it.
 both() {
     cache_lines ours "$program" "$1" "$2"
     if [ -n "$php" ]; then cache_work_php "$@" | sed 's/^/php /'; fi
 }
 
-# The table of rounds of this work: its heading, its unit's name and picoseconds, a line to take from the others or
-# nothing, and what `both` is told. It has name, least times, and their ratio.
+# The table of rounds of this work: its heading, its unit's name and picoseconds, a line to subtract from the others or
+# nothing, and the arguments of `both`. It has name, lowest times, and their ratio.
 table() {
     local heading=$1 unit=$2 picoseconds=$3 base=$4
     shift 4

@@ -19,15 +19,15 @@ soon() {
     return 1
 }
 
-# A port of this machine that nobody listens on, from 18000 on.
+# A port of this machine on which no process listens, from 18000 on.
 free_port() {
     php -n -r 'for ($port = 18000; $port < 18900; $port++) {
         if ($s = @stream_socket_server("tcp://127.0.0.1:$port")) { echo $port; exit; }
     } exit(1);'
 }
 
-# Starts php-fpm with so many workers, and sets `master`: serve_fpm SO SOCKET WORKERS [-d NAME=VALUE..]. What `fpm_env` has,
-# lines of the pool's section, is added.
+# Starts php-fpm with this many workers, and sets `master`: serve_fpm SO SOCKET WORKERS [-d NAME=VALUE..]. The lines of the
+# pool's section in `fpm_env` are added.
 fpm_env=
 serve_fpm() {
     local so=$1 socket=$2 workers=$3 own

@@ -32,7 +32,7 @@ static void flush(void) {
     len = 0;
 }
 
-/* Room for so many bytes: in the same buffer, or in one that has twice the size. */
+/* Room for this many bytes: in the same buffer, or in one that has twice the size. */
 static void make_room(size_t n, bool is_stream) {
     if (len + n <= capacity)
         return;

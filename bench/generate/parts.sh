@@ -3,7 +3,7 @@
 # own, and read quiet.sh before.
 generated_seed=7
 
-# Nanoseconds of a program with so many workers of so many calls; its summary stands in "$scratch/summary".
+# Nanoseconds of a program with this many workers of this many calls; its summary is in "$scratch/summary".
 generated_took() {
     local begin
     begin=$(now)

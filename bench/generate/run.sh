@@ -21,7 +21,7 @@ export GLIBC_TUNABLES=glibc.malloc.hugetlb=1
 php=
 if php_has apcu pcntl; then php=php; fi
 
-# What the program takes with so many workers, and PHP.
+# The time of the program with this many workers, and of PHP.
 both() {
     local run beside=-
     run=$(generated_run "$program" "$1" "$calls")

@@ -1,6 +1,6 @@
 <?php // SPDX-License-Identifier: MIT
 
-// php cost.php COUNT: stores and fetches so many values of 100 bytes.
+// php cost.php COUNT: stores and fetches COUNT values of 100 bytes.
 
 declare(strict_types=1);
 

@@ -1,6 +1,6 @@
 #!/usr/bin/env bash
 # SPDX-License-Identifier: MIT
-# Records the shop in site/: PHP's own server with five processes, and four clients that make so many visits each.
+# Records the shop in site/: PHP's own server with five processes, and four clients that make VISITS visits each.
 # Usage: bench/record/shop.sh FOLDER [VISITS]; it needs php-apcu and php-uopz.
 set -eum
 here=$(cd "$(dirname "${BASH_SOURCE[0]}")" && pwd)

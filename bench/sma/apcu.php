@@ -15,7 +15,7 @@ function filled(): float
     return 1 - $info['avail_mem'] / ($info['num_seg'] * $info['seg_size']);
 }
 
-// The best nanoseconds a call of so many, and how many answered false.
+// The best nanoseconds a call of this many, and how many returned false.
 function timed(array $calls): array
 {
     $best = PHP_INT_MAX;

@@ -1,10 +1,10 @@
 #!/bin/sh
 # SPDX-License-Identifier: MIT
-# Nanoseconds of giving a block and taking one of its size in 32 MB of words among so many gaps: by the index, among 64
+# Nanoseconds of freeing a block and taking one of its size in 32 MB of words among this many gaps: by the index, among 64
 # blocks (words in the processor's cache) and among 300,000, and by a walk over all blocks and gaps; and milliseconds of
-# a `keep` of 64 blocks. Then, where PHP with APCu is installed, what APCu's own allocator does.
-# Usage: bench/sma/run.sh PROGRAM [SEGMENTS], where PROGRAM is the built apcu_bench. The words are so many segments, or
-# one. The walk knows no segments.
+# a `keep` of 64 blocks. Then, if PHP with APCu is installed, the times of APCu's own allocator.
+# Usage: bench/sma/run.sh PROGRAM [SEGMENTS], where PROGRAM is the built apcu_bench. The words are SEGMENTS segments, by
+# default one. The walk knows no segments.
 set -eu
 program=$1
 segments=${2:-1}

@@ -6,7 +6,7 @@ declare(strict_types=1);
 
 namespace ApcuRecord;
 
-/** What the calls so far tell of keys: for which of them a value was left out, and when a row's time is over. */
+/** What is known of keys from the calls so far: those for which a value was left out, and when a row has expired. */
 final class Seen
 {
     private const ROWS = [

@@ -22,7 +22,7 @@ const KINDS = [
 /** The verdict where the line `journal` is none any more. There may be another one in a string, and marks behind it. */
 const NO_JOURNAL = 'no: (?:journal|event [0-9]+)';
 
-/** An output, line by line, beside the scripts that it is of. */
+/** An output, line by line, with the scripts that it is of. */
 final class Output
 {
     /** @var list<string> lines of workers and replies */
@@ -87,7 +87,7 @@ final class Output
         }
     }
 
-    /** The events of a worker as far as they are known: up to its first walk, or with its end where it has none. */
+    /** The events of a worker as far as they are known: up to its first walk, or with its end if it has none. */
     private static function known(array $own): array
     {
         $walk = array_search(null, $own, true);
@@ -148,7 +148,7 @@ function changes_of(Output $of): array
     return $changes;
 }
 
-/** Another reply, or a line `worker` more or less: told by the first byte that differs, for the journal is as it was. */
+/** Another reply, or a line `worker` more or less: the verdict is the first byte that differs, since the journal is unchanged. */
 function of_replies(Output $of, array $replies): array
 {
     [$old, $new] = [$of->text(), $of->text($replies)];
@@ -245,7 +245,7 @@ function swapped(Output $of): ?array
     return [$of->text(null, $marks), 'no: (?:event|byte) [0-9]+'];
 }
 
-/** What the counter `n` was before this event, or null where it is no such event or was not counted. */
+/** The value of the counter `n` before this event, or null if it is no such event or was not counted. */
 function counted_from(Output $of, int $at): ?int
 {
     return preg_match('/^apcu_inc s:1:"n"; i:([0-9]+);\n$/D', (string) $of->calls[$at], $step) === 1

@@ -29,7 +29,7 @@ final class Stretch
     /** With what ends of workers and their lines take. */
     private int $bytes = 32 * MOST_WORKERS;
 
-    /** Adds what came in this second since the start. False where there is no room; then it was not added. */
+    /** Adds what came in this second since the start. False if there is no room; then it was not added. */
     public function add(Event $event, int $second): bool
     {
         if ($event->moment < 0 || $event->moment > LATEST_SECOND) {
@@ -50,7 +50,7 @@ final class Stretch
         $this->moments[$worker] = $event->moment;
         $this->scripts[$worker] ??= "worker\n";
         $this->replies[$worker] ??= "worker $worker\n";
-        // Text is added in place, where no copy is made of what stands there.
+        // Text is appended in place, so that no copy is made of the existing text.
         $this->scripts[$worker] .= $call;
         $this->replies[$worker] .= $event->reply;
         $this->journal .= "$worker\n";
@@ -61,13 +61,13 @@ final class Stretch
         return true;
     }
 
-    /** Whether it has so many bytes, or as large a part of the events that the program takes. */
+    /** Whether it has this many bytes, or as large a part of the events that the program takes. */
     public function is_long(int $bytes): bool
     {
         return $this->bytes > $bytes || $this->events > $bytes / MOST_BYTES * MOST_EVENTS;
     }
 
-    /** A process has a worker of its own; where there are too many, some share one, for their order is known. */
+    /** A process has a worker of its own; if there are too many, some share one, because their order is known. */
     private function worker_of(int $process): int
     {
         return $process % MOST_WORKERS;
