@@ -43,13 +43,13 @@ part() { echo $((($1 + divide - 1) / divide)); }
 # What is measured in turn: of our program, of the one before, and of PHP, each as many numbers. They are pairs, of
 # which the second is what does not belong to the first.
 in_turn() {
-    local of_ours=$1 of_php=$2 ours before beside
+    local of_ours=$1 of_php=$2 ours before theirs
     shift 2
     ours=$("$of_ours" "$program" "$@")
     before=$(sed 's/[^ ][^ ]*/-/g' <<<"$ours")
     if [ -n "${BEFORE:-}" ]; then before=$("$of_ours" "$BEFORE" "$@"); fi
-    beside=$("$of_php" "$@")
-    echo "$ours $before $beside"
+    theirs=$("$of_php" "$@")
+    echo "$ours $before $theirs"
 }
 
 # The same of generated runs, whose last ones count alike.
@@ -164,7 +164,7 @@ row 'a store at four fifths, one in a hundred' us 2 'ours 3' "$(cache_figures p9
 row 'a store at four fifths, one in a thousand' us 2 none "$(cache_figures p999 '' 1e6)"
 row 'a store at four fifths, one in 10,000, less the longest turn of an empty loop' us 0 'ours 100' "$(cache_figures beyond '' 1e6)"
 
-say 'what is told'
+say 'information calls'
 keep_rounds "$rounds" 1 cache_round info "$(part 10000)"
 row 'cache_info, limited' us 2 'ratio 1' "$(cache_figures cache_info_limited '' 1e6)"
 keep_rounds "$rounds" 1 cache_round calls 1000

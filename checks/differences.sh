@@ -139,4 +139,4 @@ for folder in "$cases"/[0-9]*; do
     [ -z "$so" ] || try_extension "$folder"
 done
 [ "$others" = 0 ] || exit 1
-echo "$count cases of docs/differences print on both sides what stands there${so:+, and with the extension what they say}"
+echo "$count cases of docs/differences print on both sides what their pages say${so:+, and with the extension what they say}"

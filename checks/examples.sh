@@ -38,4 +38,4 @@ while IFS= read -r line; do
 done < <(cat examples/README.md examples/RUST.md)
 check
 [ "$others" = 0 ] || exit 1
-echo "$count commands of the pages of examples/ print what stands there"
+echo "$count commands of the pages of examples/ print what the pages say"

@@ -3,7 +3,7 @@
 // php join.php [--one] FOLDER > INPUT
 // One input of apcu_run from the scripts of several processes: a worker for each, in the order in which they started.
 // With --one there is one worker, which makes the calls of all processes in the order of their seconds. So the time is
-// the same for all, as it was for the site. Of one second's order only that of each process is known. In place of the
+// the same for all, as it was for the site. Within one second only the order of each process is known. Instead of the
 // folder its files can be named.
 
 declare(strict_types=1);
@@ -49,7 +49,7 @@ function asked(array $words): array
     return $files === [] ? give_up('usage: php join.php [--one] FOLDER > INPUT') : [$files !== $words, $files];
 }
 
-/** What the recorder wrote: the files of folders, and others but for those that stand beside scripts. */
+/** What the recorder wrote: the files of folders, and others except those that accompany scripts. */
 function scripts_of(array $paths): array
 {
     $scripts = [];
@@ -81,7 +81,7 @@ function in_order(array $paths): array
     return array_keys($starts);
 }
 
-/** Up to which second all calls of these scripts fit in an input; where some do not, that is told. */
+/** Up to which second all calls of these scripts fit into an input; if some do not, that is printed. */
 function last_second(array $paths): int
 {
     $sizes = $counts = [];

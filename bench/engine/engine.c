@@ -257,7 +257,7 @@ PHP_FUNCTION(engine_at_once) {
     at_once =
         mmap(NULL, sizeof *at_once, PROT_READ | PROT_WRITE, MAP_SHARED | MAP_ANONYMOUS, -1, 0);
     if (at_once == MAP_FAILED || processes < 1 || processes > MOST_PROCESSES) {
-        zend_throw_error(NULL, "there are not so many processes");
+        zend_throw_error(NULL, "too many processes");
         return;
     }
     if (!start(tens(all)))

@@ -39,7 +39,7 @@ one() {
     told=$(get /hits.php)
     stop "$front" "$master"
     rm -f "$socket"
-    # What the load's line has: told, requests a second, median, 99th hundredth, faults.
+    # What the load's line has: its name, requests a second, median, 99th hundredth, faults.
     set -- "$@" $(grep '^told' "$scratch/wrk") $told
     if [ "$9" != 0 ]; then
         cat "$scratch/wrk" "$socket.log" >&2

@@ -29,18 +29,18 @@ if php_has apcu pcntl; then php=php; fi
 
 # What the two scripts take in the program, and the loop in PHP.
 both_and_php() {
-    local took beside=-
+    local took theirs=-
     took=$(both_took "$program")
-    if [ -n "$php" ]; then beside=$(played_php "$@"); fi
-    echo "$took $beside"
+    if [ -n "$php" ]; then theirs=$(played_php "$@"); fi
+    echo "$took $theirs"
 }
 
 # The same of a million generated calls, which have one script.
 script_and_php() {
-    local took beside=-
+    local took theirs=-
     took=$(script_took "$program" "$scratch/script")
-    if [ -n "$php" ]; then beside=$(generated_php 1 "$1"); fi
-    echo "$took $beside"
+    if [ -n "$php" ]; then theirs=$(generated_php 1 "$1"); fi
+    echo "$took $theirs"
 }
 
 printf '%-8s %7s %6s %12s %12s %12s\n' keys workers ratio program/s calls/s php/s

@@ -46,12 +46,12 @@ for count in 266000 532000; do
     cat "$scratch/bundle" "$scratch/asking" >"$scratch/input"
     loaded=$(spent --preload "$bytes")
     check "$count"
-    beside='- -'
+    theirs='- -'
     # One worker stores and asks.
     { echo worker; records "$count" 'apcu_store '; sed 1d "$scratch/asking"; } >"$scratch/input"
     if [ "$(wc -c <"$scratch/input")" -le 67108864 ]; then
-        beside=$(spent)
+        theirs=$(spent)
         check "$count"
     fi
-    echo "$count $bytes $loaded $beside" | awk '{ printf "%9d %10d %9s %8s %9s %8s\n", $1, $2, $3, $4, $5, $6 }'
+    echo "$count $bytes $loaded $theirs" | awk '{ printf "%9d %10d %9s %8s %9s %8s\n", $1, $2, $3, $4, $5, $6 }'
 done

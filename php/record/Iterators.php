@@ -18,7 +18,7 @@ final class Iterators
         'mem_size' => APC_ITER_MEM_SIZE, 'ttl' => APC_ITER_TTL,
     ];
 
-    /** @var \WeakMap<\APCUIterator, array>|null what each iterator was made with, and whether it told its totals */
+    /** @var \WeakMap<\APCUIterator, array>|null what each iterator was made with, and whether its totals were read */
     private static ?\WeakMap $all = null;
 
     public static function made(\APCUIterator $iterator, array $args): void

@@ -51,7 +51,7 @@ function map_of(\Generator $lines): array
     return [$cells, $largest];
 }
 
-/** The words of a cache as cells of one size. The size grows with the map, so there are never more than so many. */
+/** The words of a cache as cells of one size. The size grows with the map, so the number of cells is limited. */
 final class Cells
 {
     private const MOST = MAP_ROWS * MAP_WIDTH;

@@ -13,7 +13,7 @@ const COLUMNS = [
 /** It changes nothing and counts nothing. */
 const QUESTION = "apcu_cache_info b:1;\n";
 
-/** The input that join.php --one makes of a folder; what it tells goes on to whoever called this. */
+/** The input that join.php --one makes of a folder; its messages are passed on. */
 function joined(string $folder): string
 {
     $input = @tempnam(sys_get_temp_dir(), 'apcu');
@@ -108,8 +108,8 @@ function replayed($output): array
 }
 
 /**
- * What the replies tell: hits and stores in all of the play, for the cache's own counts begin anew at each expunge; and
- * the cache's shape and words at the end.
+ * What the replies contain: hits and stores in all of the play, because the cache's own counters begin at 0 again at each
+ * expunge; and the cache's shape and words at the end.
  *
  * @param resource $output
  * @return array{array<string, int|float>, Cells} the row of a setting, and its map
@@ -154,7 +154,7 @@ function count_call(array &$sums, string $word, string $line, string $reply, str
     } elseif ($word === 'apcu_store' || $word === 'apcu_add') {
         $stored = $many === null ? (int) ($reply === "b:1;\n") : $many - members_of($reply);
         $sums['inserts'] += $stored;
-        // Where a row is there, apcu_add stores nothing either.
+        // If there is a row, apcu_add stores nothing either.
         $sums['refused'] += $word === 'apcu_store' ? ($many ?? 1) - $stored : 0;
     }
 }

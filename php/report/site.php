@@ -1,6 +1,6 @@
 <?php // SPDX-License-Identifier: MIT
 
-// What a folder of a recorder tells beside the calls: the site's own setting, what its APCu counted, what was left out.
+// What a recorder's folder has besides the calls: the site's own setting, the counters of its APCu, what was left out.
 
 declare(strict_types=1);
 
@@ -91,8 +91,8 @@ function options_of(Shape $shape, bool $by_request): array
 }
 
 /**
- * What APCu counted, by its counts at the ends of requests. They begin anew where all rows went, so what was counted
- * between the last of these ends and that is missing. Of two ends at once either may be told first.
+ * The counters of APCu at the ends of requests. They begin at 0 again when all rows are dropped, so what was counted
+ * between the last of these ends and that is missing. Of two ends at once either may come first.
  *
  * @param list<list<string>> $lines
  * @return array<string, int|float|null>|null
