@@ -23,7 +23,7 @@ help($argv);
 ini_set('memory_limit', '-1');
 [$is_one, $files] = asked(array_slice($argv, 1));
 if (array_filter($files, is_recorded(...)) !== []) {
-    give_up('that is a record of the extension, which is in order: judge.php and report.php take it as it is');
+    give_up('this is a record of the extension, whose events are in order already: give it to judge.php or report.php');
 }
 $scripts = in_order(scripts_of($files));
 $taken = $is_one ? $scripts : array_slice($scripts, 0, MOST_WORKERS);

@@ -91,7 +91,7 @@ function asked(array $words): array
     if (is_recorded($inputs[0])) {
         $replayer = replayer($replayer);
     } elseif (!is_file($program) || !is_executable($program)) {
-        give_up("$program is no program: say where it is with --program");
+        give_up("$program is not an executable: build it by ./prove, or name apcu_run with --program");
     }
     if ($page !== null) {
         // Printed before minutes of play, and kept until there is something new.

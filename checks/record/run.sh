@@ -109,7 +109,7 @@ check_messages() {
     message 'has no map' "$out" "$folder/map.php" "$script"
     message 'No such file' "$out" "$folder/report.php" --program "$folder/../apcu_run" "$work/none"
     message 'is a folder' "$out" "$folder/report.php" --program "$folder/../apcu_run" --html "$work" "$script"
-    message 'is no program' "$out" "$folder/report.php" --program "$work/none" "$script"
+    message 'is not an executable' "$out" "$folder/report.php" --program "$work/none" "$script"
     message 'no place' "$out" -d sys_temp_dir="$work/none" "$folder/report.php" --program "$folder/../apcu_run" "$script"
 }
 

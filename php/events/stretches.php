@@ -33,7 +33,7 @@ final class Stretch
     public function add(Event $event, int $second): bool
     {
         if ($event->moment < 0 || $event->moment > LATEST_SECOND) {
-            $this->cut = "no script can say the second of event {$event->number}";
+            $this->cut = "no script can express the second of event {$event->number}";
             return false;
         }
         $worker = $this->workers[$event->process] ??= $this->worker_of(count($this->workers));

@@ -17,7 +17,7 @@ const QUESTION = "apcu_cache_info b:1;\n";
 function joined(string $folder): string
 {
     $input = @tempnam(sys_get_temp_dir(), 'apcu');
-    $input !== false || give_up(sys_get_temp_dir() . ': there is no place for an input');
+    $input !== false || give_up(sys_get_temp_dir() . ': cannot create a temporary file: ' . reason());
     register_shutdown_function(static fn () => unlink($input));
     $words = [PHP_BINARY, dirname(__DIR__) . '/join.php', '--one', $folder];
     $process = @proc_open($words, [1 => opened($input, 'wb')], $pipes);
@@ -35,7 +35,7 @@ function with_questions(string $path): string
 {
     $from = opened($path);
     $copy = @tempnam(sys_get_temp_dir(), 'apcu');
-    $copy !== false || give_up(sys_get_temp_dir() . ': there is no place for a copy of the input');
+    $copy !== false || give_up(sys_get_temp_dir() . ': cannot create a temporary file: ' . reason());
     register_shutdown_function(static fn () => unlink($copy));
     $out = opened($copy, 'wb');
     $text = '';
@@ -67,7 +67,7 @@ function with_questions(string $path): string
  */
 function run_for(string $setting, array $first, array $last, string $input = '/dev/null'): array
 {
-    $output = @tmpfile() ?: give_up(sys_get_temp_dir() . ': there is no place for an output');
+    $output = @tmpfile() ?: give_up(sys_get_temp_dir() . ': cannot create a temporary file: ' . reason());
     $words = preg_split('/ +/', $setting, -1, PREG_SPLIT_NO_EMPTY);
     $process = @proc_open([...$first, ...$words, ...$last], [opened($input), $output, ['pipe', 'w']], $pipes);
     if ($process === false) {

@@ -150,7 +150,7 @@ check_folders() {
     local file
     echo 'an empty folder'
     mkdir "$scratch/empty"
-    judge "$scratch/empty" 1 'there is no record of the extension'
+    judge "$scratch/empty" 1 'no record of the extension'
     echo 'records of two servers'
     cp -r "$scratch/work" "$scratch/two"
     cp "$scratch/without"/* "$scratch/two/"
