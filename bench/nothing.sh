@@ -21,7 +21,7 @@ export PATH=$room/kit/bin:$PATH
 of=$(taskset -cp $$ | sed 's/.*: //' | tr , '\n' | while IFS=- read -r from to; do seq "$from" "${to:-$from}"; done |
     head -n "$processors" | paste -sd ,)
 
-# Tells what a command took, its words behind a name for it. What it says of itself is shown.
+# Prints what a command took; a name for it comes before its words. Its own output is shown.
 tell() {
     local name=$1 status=0 TIMEFORMAT='%R %U %S'
     shift

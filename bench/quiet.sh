@@ -48,7 +48,7 @@ keep_rounds() {
             "$@" >"$scratch/round"
         elif [ -n "$is_quiet" ] || quiet "$processes"; then
             "$@" >"$scratch/round"
-            # The test behind a round is the one before the next.
+            # The check after a round is the one before the next.
             is_quiet=
             if quiet "$processes"; then is_quiet=1; fi
         fi
@@ -66,8 +66,8 @@ keep_rounds() {
     done
 }
 
-# Sets `found` to what a command measures, a line of numbers: the least of each place over the rounds, `-` where it
-# stands in all, and `-` alone where no round was quiet.
+# Sets `found` to what a command measures, a line of numbers: the lowest of each place over the rounds, `-` if it
+# is `-` in all, and only `-` if no round was quiet.
 measured() {
     keep_rounds "$rounds" "$@"
     found=$(awk '

@@ -25,7 +25,7 @@ settings() {
     sed -n -e '2s/^\/\/ apc/apc/' -e '2s/, /\n/g' -e '2{/^apc/p' -e '}' "$1"
 }
 
-# What PHP prints for a case, without its warnings; with a folder of settings in place of its own.
+# What PHP prints for a case, without its warnings; with a folder of settings instead of its own.
 ask_php() {
     local words=() setting
     [ $# = 1 ] || local -x PHP_INI_SCAN_DIR=$2
@@ -69,7 +69,7 @@ try_output() {
     echo "${1##*/}: $2 is no output of its script: $verdict" >&2
 }
 
-# A folder of PHP's settings, but with the extension in place of APCu.
+# A folder of PHP's settings, but with the extension instead of APCu.
 settings_with() {
     local file
     mkdir "$scratch/settings"

@@ -31,7 +31,7 @@ while IFS= read -r line; do
             command=${line#'    $ '}
             ;;
         '    '*) [ -z "$command" ] || wanted+="${line#'    '}"$'\n' ;;
-        # An empty line may stand within what is printed.
+        # An empty line may be within the output.
         '') [ -z "$command" ] || wanted+=$'\n' ;;
         *) check ;;
     esac

@@ -1,9 +1,9 @@
 #!/usr/bin/env bash
 # SPDX-License-Identifier: MIT
-# Writes the table and lists of crates of ARCHITECTURE.md, between its two marks: what each crate is, by the first sentence
-# of its own comment, what it stands on, by crates.txt, and the functions that carry it, by the lines 'carries:' of claims.txt;
-# and whose proofs cite lemmas out of the proofs of a lower crate, by their imports.
-# With --check it writes nothing, and ends with status 1 where ARCHITECTURE.md is not what it would write.
+# Writes the table and lists of crates of ARCHITECTURE.md, between its two marks: each crate by the first sentence of its
+# own comment, the crates on which it depends, by crates.txt, and the functions that carry it, by the lines 'carries:' of
+# claims.txt; and whose proofs cite lemmas out of the proofs of a lower crate, by their imports.
+# With --check it writes nothing, and ends with status 1 if ARCHITECTURE.md is not what it would write.
 # Usage: docs/crates.sh [--check]
 set -eu
 cd "$(dirname "$0")/.."

@@ -15,7 +15,7 @@ require __DIR__ . '/events/files.php';
 require __DIR__ . '/events/stretches.php';
 require __DIR__ . '/report/site.php';
 
-/** What the recorder calls full, and nothing is written behind. */
+/** The size at which the recorder regards a file as full, after which nothing is written. */
 const FULL_BYTES = 62_000_000;
 const USUAL_SLOTS = 4096;
 
@@ -91,7 +91,7 @@ function last_second(array $paths): int
             $sizes[$second] = ($sizes[$second] ?? 0) + strlen($text) + $questions;
             $counts[$second] = ($counts[$second] ?? 0) + $events;
         }
-        // What comes behind the last second of a full one was not recorded.
+        // What comes after the last second of a full one was not recorded.
         $full = filesize($path) > FULL_BYTES ? min($full, $second ?? PHP_INT_MAX) : $full;
     }
     ksort($sizes);
@@ -200,7 +200,7 @@ function part(int $request, int $second, string $calls, int $questions, int $eve
     }
 }
 
-/** What the recorder left out of these scripts, and for how many values a string stands, by kind. */
+/** What the recorder left out of these scripts, and how many values a string replaces, by kind. */
 function tell_left(array $paths): void
 {
     foreach (sums_left($paths) as $how => $sums) {

@@ -73,7 +73,7 @@ function key_of(string $line): ?string
         : null;
 }
 
-/** How many members the array has that stands at a place, or null where none does. */
+/** How many members the array at a place has, or null if there is none. */
 function members_of(string $text, int $at = 0): ?int
 {
     return preg_match('/\Ga:([0-9]+):/', $text, $found, 0, $at) === 1 ? (int) $found[1] : null;

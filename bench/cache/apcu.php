@@ -45,7 +45,7 @@ function report(string $name, array $batches, Closure $loop, mixed $value = null
     echo "$name $least $answers\n";
 }
 
-// Of ten rows one has the short text, one the long one, and the others a truth value.
+// Of ten rows one has the short text, one the long one, and the others a boolean.
 function fill_mixed(int $rows, string $short, string $long): void
 {
     for ($i = 0; $i < $rows; $i++) {
@@ -114,7 +114,7 @@ function fill(int $rows, int $ttl): void
     }
 }
 
-// Stores a text for ever that leaves less free than this.
+// Stores a text without a ttl that leaves less free than this.
 function fill_up(int $room): void
 {
     while (($left = apcu_sma_info(true)['avail_mem']) > 2 * $room) {

@@ -26,7 +26,7 @@ if [ -z "$library" ]; then
     "$here/../../prove" --library
     library=$here/../../crates/cache_c/out/libcache_c.a
 fi
-# PHP's headers and APCu's stand where Debian's packages put them; warnings in them are not ours.
+# PHP's headers and APCu's are where Debian's packages put them; warnings in them are not ours.
 read -ra includes <<<"$(php-config --includes | sed 's/-I/-isystem /g')"
 cc -std=gnu11 -O2 -fPIC -shared -Wall -Wextra "${includes[@]}" -isystem "$(php-config --include-dir)/ext/apcu" \
     "$here/engine.c" "$here/calls.c" "$here/../../capi/shared_cache.c" "$library" -lpthread -o "$scratch/engine.so"

@@ -3,7 +3,7 @@
 // Times of PHP's calls of a cache, in one process: php calls.php KEY_BYTES ROWS names|times
 // prints the calls' names, one a line, or their times, nanoseconds of the processor each, in one line: the least of so
 // many rounds without the loop's own time. Keys are called in an order of their own, which is not the one in which their
-// rows were stored, so that no row lies behind the one of the call before.
+// rows were stored, so that no row is right after the one of the call before.
 
 declare(strict_types=1);
 

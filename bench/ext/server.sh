@@ -1,5 +1,5 @@
 # SPDX-License-Identifier: MIT
-# php-fpm and nginx of a script's own, in its scratch folder; scripts of this folder read this file behind
+# php-fpm and nginx of a script's own, in its scratch folder; scripts of this folder read this file after
 # ../../php/ext/checks/common.sh.
 version=$(php -r 'echo PHP_MAJOR_VERSION, ".", PHP_MINOR_VERSION;')
 fpm=$(command -v "php-fpm$version" || command -v php-fpm || echo "/usr/sbin/php-fpm$version")
@@ -32,7 +32,7 @@ fpm_env=
 serve_fpm() {
     local so=$1 socket=$2 workers=$3 own
     shift 3
-    # Others may not be allowed to read where the extension stands.
+    # Other users may not be allowed to read the extension's folder.
     own="$scratch/$(basename "$socket").so"
     cp "$so" "$own"
     cat >"$socket.conf" <<END
@@ -77,7 +77,7 @@ http {
         listen 127.0.0.1:$port;
         root $folder;
         location / {
-            # A connection that is kept keeps a worker, and other requests wait for ever.
+            # A connection that is kept keeps a worker, and other requests wait without end.
             fastcgi_pass unix:$socket;
             fastcgi_index index.php;
             fastcgi_param SCRIPT_FILENAME \$document_root\$fastcgi_script_name;

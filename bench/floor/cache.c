@@ -23,8 +23,8 @@ static void *zeros(size_t count, size_t size) {
     return at;
 }
 
-/* The words. A block begins with its size, a gap with its size and one, and the place of the gap
- * behind it or 0. Sizes are even, and so are places. */
+/* The words. A block begins with its size, a gap with its size and one, and the place of the next
+ * gap or 0. Sizes are even, and so are places. */
 enum { WORDS = 4 << 20 };
 static uint64_t *words;
 static uint32_t first_gap;

@@ -19,7 +19,7 @@ generated_run() {
     awk -v none="$none" -v some="$some" -v n=$(($2 * $3)) 'BEGIN { printf "%.1f %.1f\n", some / n, none / n }'
 }
 
-# Nanoseconds a call of PHP's loop; its counters stand in "$scratch/php".
+# Nanoseconds a call of PHP's loop; its counters are in "$scratch/php".
 generated_php() {
     php -d apc.enable_cli=1 -d apc.shm_size=32M -d apc.use_request_time=0 \
         "$(dirname "${BASH_SOURCE[0]}")/apcu.php" "$generated_seed" "$1" "$2" >"$scratch/php"

@@ -25,7 +25,7 @@ function ttl(): int
     return [0, 0, 1, 2, 3, 1000][mt_rand(0, 5)];
 }
 
-// Null, a truth value, an integer or a string, at times a long one, so that workers meet while they copy.
+// Null, a boolean, an integer or a string, at times a long one, so that workers meet while they copy.
 function scalar()
 {
     $long = str_repeat('yz', 5000);

@@ -47,7 +47,7 @@ function answer(string $word, array $of): string
     });
 }
 
-/** The values behind a line's word. Each value has one text, so its text tells where the next one begins. */
+/** The values after a line's word. Each value has one text, so its text ends where the next one begins. */
 function arguments(string $line): array
 {
     $values = [];

@@ -23,7 +23,7 @@ final class Seen
     public int $now = 0;
     /** @var array<string, string> the row that names why a key's value was left out */
     private array $left = [];
-    /** @var array<string, string> the same of values for which a string stands in one of the next lines */
+    /** @var array<string, string> the same of values that a string replaces in one of the next lines */
     private array $stands = [];
     /** @var array<string, int> the last second of a row */
     private array $ends = [];

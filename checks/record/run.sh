@@ -140,7 +140,7 @@ check_replies() {
     return "$failed"
 }
 
-# A report has a line for each setting, the site's own one first and APCu's counts behind it, what was left out in the
+# A report has a line for each setting, the site's own one first, followed by APCu's counters, what was left out in the
 # last one; and the page has a picture of each cache.
 check_report() {
     local page="$work/page.html"

@@ -78,7 +78,7 @@ final class Stretch
         return implode($this->scripts);
     }
 
-    /** Each worker ends behind all events. */
+    /** Each worker ends after all events. */
     public function output(): string
     {
         $ends = implode(array_map(static fn (int $worker): string => "$worker\n", array_keys($this->scripts)));
@@ -118,7 +118,7 @@ final class Extent
 }
 
 /**
- * The stretches. Behind one that is full, the next one begins when the cache is empty again; what is between is in none.
+ * The stretches. After one that is full, the next one begins when the cache is empty again; what is between is in none.
  * One that is large enough ends when the cache is emptied, so few are ever full.
  *
  * @param iterable<Event> $events

@@ -7,8 +7,8 @@ namespace ApcuRecord;
 require __DIR__ . '/Pattern.php';
 
 /**
- * PHP does not tell where a loop goes over an iterator. So a walk stands where its iterator is made, unless the next
- * call deletes by it or asks it for a total.
+ * PHP does not report when a loop runs over an iterator. So a walk is recorded where its iterator is made, unless the
+ * next call deletes by it or asks it for a total.
  */
 final class Iterators
 {

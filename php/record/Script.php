@@ -4,7 +4,7 @@ declare(strict_types=1);
 
 namespace ApcuRecord;
 
-/** The script of this process: lines in a buffer, and behind it a file that no other process writes. */
+/** The script of this process: lines in a buffer, and then a file that no other process writes. */
 final class Script
 {
     /** A file that has as many is not written on: apcu_run takes 67,108,864 at most. */
@@ -21,7 +21,7 @@ final class Script
     private static int $second_before = 0;
     private static int $request = 0;
     private static string $replies = '';
-    /** @var array<string, int> how many calls were left out, and for how many values a string stands, by kind */
+    /** @var array<string, int> how many calls were left out, and how many values a string replaces, by kind */
     private static array $left = [];
     /** The recorder itself asks APCu. */
     private static bool $is_asking = false;

@@ -4,7 +4,7 @@ declare(strict_types=1);
 
 namespace ApcuRecord;
 
-/** Values as a script says them: as `serialize` writes them. For one that it can't say stands a string as long. */
+/** Values as a script expresses them, as `serialize` writes them; a string of the same length replaces one that it can't. */
 final class Text
 {
     /** A value inside this many arrays and objects can't be expressed. */

@@ -15,7 +15,7 @@ const MAP_WORDS = [
     'slots' => 'hash chains', 'row' => 'rows', 'mixed' => 'rows and gaps', 'removed' => 'removed rows', 'free' => 'free',
 ];
 
-/** Goes on in an output to behind its line `map`; whether there is one. */
+/** Advances in an output to after its line `map`; whether there is one. */
 function reaches_map(\Generator $lines): bool
 {
     for (; $lines->valid(); $lines->next()) {
@@ -28,8 +28,8 @@ function reaches_map(\Generator $lines): bool
 }
 
 /**
- * What a map tells, from the line behind `map` on: its blocks and free runs as cells of a picture, and the largest free
- * run in words. The hash chains stand before the first block or free run.
+ * The content of a map, from the line after `map` on: its blocks and free runs as cells of a picture, and the largest
+ * free run in words. The hash chains come before the first block or free run.
  *
  * @return array{Cells, int}
  */

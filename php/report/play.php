@@ -160,8 +160,8 @@ function count_call(array &$sums, string $word, string $line, string $reply, str
 }
 
 /**
- * Of the last replies of each worker, the one that came last: behind it there is no call but questions and ends. The
- * last event of a worker is its end, and the one before it is its question. The journal is read up to the map.
+ * Of the last replies of each worker, the one that came last: after it there are no calls except information calls and
+ * ends. The last event of a worker is its end, and the one before it is its question. The journal is read up to the map.
  */
 function last_of(array $ends, \Generator $journal): array
 {

@@ -103,7 +103,7 @@ function counted_by_apcu(array $lines): ?array
         return null;
     }
     usort($lines, static fn (array $one, array $other): int => (int) $one[0] <=> (int) $other[0]);
-    // By how often rows went for want of room, since the cache was cleared; each time that it was is a list of its own.
+    // By how often rows were dropped to make room, since the cache was cleared; each clearing begins a list of its own.
     $times = [[]];
     foreach ($lines as [, $hits, $misses, $inserts, $expunges, $entries, $used]) {
         $now = [(int) $hits, (int) $misses, (int) $inserts];
@@ -125,7 +125,7 @@ function counted_by_apcu(array $lines): ?array
 }
 
 /**
- * What the recorder left out of scripts, and for how many values a string stands.
+ * What the recorder left out of scripts, and how many values a string replaces.
  *
  * @param list<string> $paths
  * @return array{left: array<string, int>, stands: array<string, int>}

@@ -40,7 +40,7 @@ if (isset($_GET['anew'])) {
 }
 $key = (string) $_GET['key'];
 if (isset($_GET['number'])) {
-    // What is dropped from here on is counted behind this.
+    // What is dropped from here on is counted after this.
     $drops = drops();
     $number = (int) $_GET['number'];
     exit(apcu_store($key, value_of_number($key, $number)) ? "stored $drops" : 'full');

@@ -21,7 +21,7 @@ for file in "$ours" "$base"; do
 done
 if cmp -s "$ours" "$base"; then echo "This is PHP's APCu compared with itself."; fi
 
-# Makes the folder of settings that PHP reads for an extension in place of its APCu, and prints its name; for a
+# Makes the folder of settings that PHP reads for an extension instead of its APCu, and prints its name; for a
 # program of PHP's: cli or fpm.
 settings_of() {
     local so=$1 sapi=${2:-cli} folder file

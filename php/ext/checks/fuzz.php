@@ -3,8 +3,8 @@
 // Random calls of PHP: php fuzz.php moment|times|four SEED COUNT
 // prints a digest of each thousand answers, so that two extensions can be compared; with TRACE=1 in the environment
 // each answer is a line. An answer is what the call gave or threw, its warnings, and which hooks of objects it ran.
-// `moment`: time stands. `times`: it moves between calls. `four`: four processes take turns, one at a time, and one in
-// a hundred turns ends a process, whose place a new one takes; over odd seeds time moves. Time is the file CLOCK_FILE.
+// `moment`: time does not advance. `times`: it moves between calls. `four`: four processes take turns, one at a time, and
+// one in a hundred turns ends a process, which a new one replaces; over odd seeds time moves. Time is the file CLOCK_FILE.
 //
 // Left out is what docs/DIFFERENCES.md lets differ (its numbers):
 //  6       a ttl is from 0 to 2,147,483,647;

@@ -9,7 +9,7 @@ declare(strict_types=1);
 [, $address, $file] = $argv;
 [$views, $wrong, $skeleton] = [0, 0, ''];
 
-/** A view's text; what has to stand in it, and what may not. */
+/** A view's text; what it has to contain, and what it may not. */
 function view(string $name, string $query, array $has = [], array $lacks = []): string
 {
     global $address, $views, $wrong, $skeleton;

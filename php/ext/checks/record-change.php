@@ -1,8 +1,8 @@
 <?php // SPDX-License-Identifier: MIT
 
 // php record-change.php KIND FOLDER [N]: changes a record at one event, and prints the number of the first one that is wrong
-// then. KIND is reply (another number is given, by the first apcu_inc from the N. tenth of the events on), swap (two calls on
-// one key change their places), left (a call is left out, and those behind it are numbered as if it had not been), or gone
+// then. KIND is reply (another number is given, by the first apcu_inc from the N. tenth of the events on), swap (two calls
+// on one key are swapped), left (a call is left out, and those after it are numbered as if it had not been), or gone
 // (the same, and its number is missing). Without N it is in the middle.
 
 declare(strict_types=1);
@@ -68,7 +68,7 @@ function next_counted(array $events, int $at): int
 }
 
 /**
- * The places of a call that counts and of the next one on the same key, from another number, the nearest behind a place.
+ * The places of a call that counts and of the next one on the same key, from another number, the nearest after a place.
  * Those that are next to one another have no call between that makes up for the first.
  */
 function two_counted(array $events, int $at, bool $is_next): array

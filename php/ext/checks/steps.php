@@ -54,7 +54,7 @@ function fill(int $filler): void
     apcu_store(before($filler));
 }
 
-/** A child that has stopped itself before its call, and will do it behind it. */
+/** A child that has stopped itself before its call, and will do it after the call. */
 function stopped(callable $call): int
 {
     $id = pcntl_fork();
