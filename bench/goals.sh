@@ -1,9 +1,9 @@
 #!/usr/bin/env bash
 # SPDX-License-Identifier: MIT
-# What the speed of this cache is to be, beside PHP's APCu in the same run, as one table with the ratio (ours / PHP's)
-# first. A goal is of the ratio, of our own figure, or of ours / the floor:
-# - generated runs of one and of four workers, and of 64 beside four;
-# - a million calls from a script to its output, beside PHP's loop;
+# The goals for the speed of this cache, compared with PHP's APCu in the same run, as one table with the ratio (ours /
+# PHP's) first. A goal is of the ratio, of our own figure, or of ours / the floor:
+# - generated runs of one and of four workers, and of 64 compared with four;
+# - a million calls from a script to its output, compared with PHP's loop;
 # - fetches that are printed whole; their floor is a program in C that holds its output likewise (floor/fetch.c);
 # - stores of texts that change, without what as many lines take that are read and find the row; they have no goal,
 #   since each changed word is one locked instruction.
@@ -31,19 +31,19 @@ for each in "$program" ${BEFORE:+"$BEFORE"}; do
 done
 cc -std=gnu11 -O3 -Wall -Wextra -Wpedantic "$here/floor/fetch.c" -o "$scratch/fetch"
 
-# So many calls, or the part of them that is wanted.
+# This many calls, or the part of them that is wanted.
 part() { echo $((($1 + divide - 1) / divide)); }
 
 # What is measured in turn: of our program, of the one before, and of PHP, each as many numbers. They are pairs, of
 # which the second is what does not belong to the first.
 in_turn() {
-    local of_ours=$1 of_php=$2 ours before beside
+    local of_ours=$1 of_php=$2 ours before theirs
     shift 2
     ours=$("$of_ours" "$program" "$@")
     before=$(sed 's/[^ ][^ ]*/-/g' <<<"$ours")
     if [ -n "${BEFORE:-}" ]; then before=$("$of_ours" "$BEFORE" "$@"); fi
-    beside=$("$of_php" "$@")
-    echo "$ours $before $beside"
+    theirs=$("$of_php" "$@")
+    echo "$ours $before $theirs"
 }
 
 # The same of generated runs, whose last ones count alike.
@@ -53,10 +53,10 @@ generated_in_turn() {
 }
 
 # Writes a row of the table: what was measured, its unit and places, its goal (`ratio N`, `ours N`, `floor N`, or
-# `none`), and the figures of us, before, of PHP, and of the floor where there is one.
+# `none`), and the figures of us, before, of PHP, and of the floor if there is one.
 row() { printf '%s|' "$@" >>"$scratch/rows" && echo >>"$scratch/rows"; }
 
-# Of the pairs in `found` number K of us, before, of PHP, and of the floor where there are four sides: the first less
+# Of the pairs in `found` number K of us, before, of PHP, and of the floor if there are four sides: the first less
 # the second, divided by a number.
 figures() {
     awk -v k="$1" -v unit="${2:-1}" -v sides="${3:-3}" '{

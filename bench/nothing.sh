@@ -1,10 +1,10 @@
 #!/usr/bin/env bash
 # SPDX-License-Identifier: MIT
-# What the commands of README's Try it take from nothing, by the clock and of processors: the first example by rt try,
+# The time of the commands of README's Try it from nothing, by the clock and of processors: the first example by rt try,
 # ./prove, and the example by the program that is built then. They run in a clone of what is committed here, with a copy
-# of the kit by hard links, beside which rt finds nothing that it has kept. Clone and copy are removed at the end.
-# Usage: bench/nothing.sh [PROCESSORS [FOLDER]], on a machine without other work. The commands may use so many processors,
-# all of them without it. FOLDER, /tmp without it, is where clone and copy stand, on the file system that the kit is on.
+# of the kit by hard links, for which rt has kept no proofs. Clone and copy are removed at the end.
+# Usage: bench/nothing.sh [PROCESSORS [FOLDER]], on a machine without other work. The commands may use this many
+# processors, by default all of them. FOLDER, by default /tmp, is for clone and copy, on the file system of the kit.
 set -eu
 home=$(cd "$(dirname "${BASH_SOURCE[0]}")/.." && pwd)
 kit=$(dirname "$(dirname "$(realpath "$(command -v rt)")")")
@@ -12,7 +12,7 @@ processors=${1:-$(nproc)}
 room=$(mktemp -d "${2:-/tmp}/nothing-XXXXXX")
 trap 'rm -rf "$room"' EXIT
 trap 'exit 130' INT TERM
-# rt runs programs as nobody, who has to find the way here.
+# rt runs programs as the user nobody, which must be able to read this.
 chmod 711 "$room"
 cp -al "$kit" "$room/kit"
 git clone -q "$home" "$room/clone"
@@ -21,7 +21,7 @@ export PATH=$room/kit/bin:$PATH
 of=$(taskset -cp $$ | sed 's/.*: //' | tr , '\n' | while IFS=- read -r from to; do seq "$from" "${to:-$from}"; done |
     head -n "$processors" | paste -sd ,)
 
-# Tells what a command took, its words behind a name for it. What it says of itself is shown.
+# Prints what a command took; a name for it comes before its words. Its own output is shown.
 tell() {
     local name=$1 status=0 TIMEFORMAT='%R %U %S'
     shift

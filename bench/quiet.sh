@@ -1,8 +1,8 @@
 # SPDX-License-Identifier: MIT
-# Figures that are kept only where the machine is quiet; scripts of bench/ read this file. A script sets `scratch`, a
+# Figures that are kept only if the machine is quiet; scripts of bench/ read this file. A script sets `scratch`, a
 # folder of its own, before it measures, and calls `tell_of_quiet` at its end. NOISY=1 in the environment measures
-# without a test, which tries a script alone, QUIET_SECONDS=N waits so long in all for a machine that is not quiet, and
-# ROUNDS=N measures each figure in so many rounds.
+# without this check, which only tests a script, QUIET_SECONDS=N waits at most N seconds in all for a quiet machine, and
+# ROUNDS=N measures each figure in N rounds.
 shopt -s inherit_errexit
 
 # Rounds of which each figure is the least.
@@ -15,7 +15,7 @@ is_lacking=
 # Nanoseconds of the clock.
 now() { date +%s%N; }
 
-# Milliseconds by the clock, and of processors, of an empty loop in so many processes at once.
+# Milliseconds by the clock, and of processors, of an empty loop in this many processes at once.
 loops() {
     local TIMEFORMAT='%3R %3U' i
     # In a shell of its own, which waits for these loops alone.
@@ -25,8 +25,8 @@ loops() {
     ); } 2>&1 | tr -d '.,'
 }
 
-# Whether a loop in one process takes little longer than it has its processor, and in so many little longer than in one.
-# The first is asked too, since on a full machine a loop of many processes is no slower than one that is slow already.
+# Whether a loop in one process takes little longer than it has its processor, and in this many little longer than in one.
+# The first is checked too, since on a full machine a loop of many processes is no slower than one that is slow already.
 quiet() {
     local one many own
     read -r one own <<<"$(loops 1)"
@@ -35,8 +35,8 @@ quiet() {
     [ $((10#$many * 100)) -le $((10#$one * 125)) ]
 }
 
-# Runs a command in so many rounds that a quiet machine stood before and after, with so many processes; what the rounds
-# printed stands one behind another in "$scratch/kept". Where patience ends first there are fewer rounds, or none.
+# Runs a command in this many rounds, before and after which the machine was quiet, with this many processes; the output of
+# the rounds is in "$scratch/kept", one after another. If the time runs out first there are fewer rounds, or none.
 keep_rounds() {
     local wanted=$1 processes=$2 kept=0 is_quiet= begun
     shift 2
@@ -48,7 +48,7 @@ keep_rounds() {
             "$@" >"$scratch/round"
         elif [ -n "$is_quiet" ] || quiet "$processes"; then
             "$@" >"$scratch/round"
-            # The test behind a round is the one before the next.
+            # The check after a round is the one before the next.
             is_quiet=
             if quiet "$processes"; then is_quiet=1; fi
         fi
@@ -66,8 +66,8 @@ keep_rounds() {
     done
 }
 
-# Sets `found` to what a command measures, a line of numbers: the least of each place over the rounds, `-` where it
-# stands in all, and `-` alone where no round was quiet.
+# Sets `found` to what a command measures, a line of numbers: the lowest of each place over the rounds, `-` if it
+# is `-` in all, and only `-` if no round was quiet.
 measured() {
     keep_rounds "$rounds" "$@"
     found=$(awk '

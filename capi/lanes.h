@@ -3,7 +3,7 @@
  * For the C here and the extension for PHP; a file that includes it defines _GNU_SOURCE first.
  *
  * A reader takes a lane: a word in a cache line that readers on other processors don't write. It
- * reads if the lock is free then, and else releases the lane and waits. A writer takes the lock,
+ * reads if the lock is free then, and otherwise releases the lane and waits. A writer takes the lock,
  * and waits until no lane is taken. Each of them writes its own word before it reads the other's,
  * and all four steps are sequentially consistent, so at least one of two that come at the same time
  * sees the other.
@@ -211,7 +211,7 @@ ROBUST_SELDOM static lane *lanes_enter_late(lanes *all, robust_lock *lock) {
 }
 
 /* Begins a read: the lane in which it is done, until lane_release. Null if the caller has to take
- * the lock, and read then. */
+ * the lock, and then read. */
 static inline lane *lanes_enter(lanes *all, robust_lock *lock) {
     lane *one = &all->lane[2 * (uint32_t)sched_getcpu() & (all->count - 1)];
     if (__builtin_expect(!lock->is_mutex && robust_self.id != 0 && lanes_is_free(lock), true) &&
@@ -223,7 +223,7 @@ static inline lane *lanes_enter(lanes *all, robust_lock *lock) {
     return lanes_enter_late(all, lock);
 }
 
-/* Until a lane is not taken. A reader that runs soon is done. If it was interrupted, this thread
+/* Until a lane is not taken. A running reader is soon done. If it was interrupted, this thread
  * sleeps: the release or the owner's death wakes it. */
 ROBUST_SELDOM static void lane_wait(lane *one) {
     static const struct timespec second = {.tv_sec = 1};

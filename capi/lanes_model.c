@@ -170,7 +170,7 @@ static unsigned waiting(const struct state *s) {
     return all;
 }
 
-/* A state that follows the one that is looked at; deaths are not needed to come to an end. */
+/* A state that follows the current one; deaths are not needed to reach an end. */
 static void follow(const struct state *s, bool is_death) {
     must(s->noted == waiting(s) + s->counted + s->lost, "a use is lost, or counted twice");
     uint32_t to = number_of(s);

@@ -60,8 +60,8 @@ __attribute__((format(printf, 1, 2), noreturn)) static void give_up(const char *
     exit(NOTHING);
 }
 
-/* The memory of the cache. What cache_new asks for comes from one mapping, so that an empty cache can
- * take the place of another one. */
+/* The memory of the cache. What cache_new allocates is in one mapping, so that an empty cache can
+ * replace another one. */
 
 static unsigned char *room;
 static size_t room_size, room_used;
@@ -253,7 +253,7 @@ static void open_record(source *in, const char *path) {
     use(in, (size_t)end + 2);
 }
 
-/* An event with its bytes, which are good until the next one is read. */
+/* An event with its bytes, which are valid until the next one is read. */
 typedef struct {
     record_event is;
     uint64_t number;
@@ -301,10 +301,10 @@ static ALWAYS_INLINE bool next_event(source *in, event *e, const char **fault) {
     return true;
 }
 
-/* Asking the cache. */
+/* Calling the cache. */
 
-/* As many bytes as a string of the record may have, for those whose lengths alone are there. Pages that
- * no call reads take no memory. */
+/* As many bytes as a string of the record may have, for those of which only the length is known. Pages
+ * that no call reads take no memory. */
 static const uint8_t *zeros;
 
 static ALWAYS_INLINE cache_answer look(player *p, const event *e, uint64_t hash) {
@@ -459,7 +459,7 @@ static int print_record(source *in) {
     return fault || is_interrupted ? IN_PART : RIGHT;
 }
 
-/* A text for a person's eyes, and not too much of it. */
+/* A text for messages, shortened. */
 static void show(const char *name, const char *text, size_t len) {
     static const char letters[] = "abtnvfr";
     size_t most = len <= 160 ? len : 140;
@@ -478,7 +478,7 @@ static void show(const char *name, const char *text, size_t len) {
     putchar('\n');
 }
 
-/* A number with commas: six of them in turn. */
+/* A number with commas; one of six buffers in turn. */
 static const char *shown(uint64_t number) {
     static char texts[6][32];
     static unsigned turn;
@@ -624,7 +624,7 @@ static int judge(source *in) {
     return is_part ? IN_PART : RIGHT;
 }
 
-/* What a cache comes to. Its own counts begin again at an expunge; these do not. */
+/* The totals of a cache. Its own counters begin at 0 again at an expunge; these do not. */
 typedef struct {
     uint64_t hits, misses, inserts, refused, expunges;
 } sums;

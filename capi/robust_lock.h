@@ -5,15 +5,15 @@
  *
  * Linux keeps for each thread the head of a list of locks that the thread has, which the C library
  * registers for its own robust mutexes (man 2 get_robust_list; robust-futexes and robust-futex-ABI in
- * the kernel's Documentation). Beside the list the head has one place, list_op_pending, for the one
- * lock that the thread just takes or gives back. Where a thread ends, however that is, the kernel
+ * the kernel's Documentation). Besides the list the head has one place, list_op_pending, for the one
+ * lock that the thread is taking or releasing. When a thread ends, for any reason, the kernel
  * looks at the word of the lock there:
- * - where the word names the thread, it puts FUTEX_OWNER_DIED in the place of the name, and wakes one
+ * - if the word names the thread, it replaces the name by FUTEX_OWNER_DIED, and wakes one
  *   that waits if FUTEX_WAITERS was there, which stays;
- * - where it names nobody, it wakes one that waits;
- * - else it does nothing.
- * A short lock stands in that place from before it is taken until it is given back, and in no list.
- * The C library uses the place inside its calls on robust mutexes alone. So whoever has a short lock
+ * - if it names no thread, it wakes one that waits;
+ * - otherwise it does nothing.
+ * A short lock is in that place from before it is taken until it is released, and in no list.
+ * The C library uses the place only inside its calls on robust mutexes. So a thread with a short lock
  * takes no robust mutex and no other short lock, does not fork, and lets no signal's handler do so.
  *
  * A long lock is a robust mutex, and so is a short one if the system shows no such head.
@@ -43,8 +43,8 @@
 #include <time.h>
 
 typedef struct {
-    /* 0: free; the number of the thread that has it; FUTEX_OWNER_DIED: its last owner died, and
-     * nobody has taken it since. With FUTEX_WAITERS, one that waits is woken when it is given. */
+    /* 0: free; the number of the thread that owns it; FUTEX_OWNER_DIED: its last owner died, and
+     * no thread has taken it since. With FUTEX_WAITERS, one that waits is woken on release. */
     _Atomic uint32_t word;
     bool is_mutex;    /* the word is not used */
     uint64_t longest; /* nanoseconds of the longest sleep for it; read and written by the owner */
@@ -57,7 +57,7 @@ typedef union {
     pthread_mutex_t mutex;
 } robust_mark;
 
-/* Of what is seldom called, no call takes time where it is not. */
+/* Rarely called functions are out of line, so that they cost no time if they are not called. */
 #define ROBUST_SELDOM __attribute__((noinline, cold, unused))
 
 static inline uint64_t robust_nanoseconds(void) {
@@ -79,8 +79,8 @@ static inline void robust_note_sleep(robust_lock *lock, uint64_t since) {
 #include <sys/syscall.h>
 #include <unistd.h>
 
-/* The place in the kernel's list, and this thread's number. Each call reads them, so they lie where
- * no function of the loader is asked for them. */
+/* The place in the kernel's list, and this thread's number. Each call reads them, so they are where
+ * no function of the loader is called for them. */
 static _Thread_local struct {
     struct robust_list_head *head;
     uint32_t id; /* 0: not known yet */
@@ -94,7 +94,7 @@ ROBUST_SELDOM static bool robust_learn_self(void) {
     size_t size = 0;
     if (syscall(SYS_get_robust_list, 0, &head, &size) != 0 || !head || size != sizeof *head)
         return false;
-    /* A mark has room for its entry behind its word. */
+    /* A mark has room for its entry after its word. */
     if (head->futex_offset > -(long)sizeof(uint32_t) ||
         head->futex_offset < (long)sizeof(struct robust_list) - (long)sizeof(robust_mark))
         return false;
@@ -114,8 +114,8 @@ static inline void robust_in_order(void) { atomic_signal_fence(memory_order_seq_
 
 static inline bool robust_is_free(uint32_t word) { return (word & FUTEX_TID_MASK) == 0; }
 
-/* Takes the lock where its word still is this free one: EBUSY where it is not. Who waited for it
- * adds FUTEX_WAITERS, since others may wait beside it. Lanes are read after it (lanes.h), so it is
+/* Takes the lock if its word still is this free one: EBUSY if it is not. A thread that waited for it
+ * adds FUTEX_WAITERS, since others may wait too. Lanes are read after it (lanes.h), so it is
  * sequentially consistent. */
 static inline int robust_take_free(robust_lock *lock, uint32_t free, uint32_t id,
                                    uint32_t waiters) {
@@ -127,8 +127,8 @@ static inline int robust_take_free(robust_lock *lock, uint32_t free, uint32_t id
     return free & FUTEX_OWNER_DIED ? EOWNERDEAD : 0;
 }
 
-/* Sleeps until the lock is given, and takes it. One that waits may be killed after it was woken and
- * before it took the lock. Where somebody else took it meanwhile, the kernel wakes nobody for the
+/* Sleeps until the lock is released, and takes it. One that waits may be killed after it was woken and
+ * before it took the lock. If another one took it meanwhile, the kernel wakes no thread for the
  * dead one, nor does the new owner, which knows of no waiter. So each looks again after a second. */
 ROBUST_SELDOM static int robust_sleep(robust_lock *lock, uint32_t id) {
     static const struct timespec second = {.tv_sec = 1};
@@ -153,7 +153,7 @@ ROBUST_SELDOM static int robust_sleep(robust_lock *lock, uint32_t id) {
     }
 }
 
-/* An owner that runs is soon done: the lock is looked at so many times, with growing gaps in which
+/* A running owner is soon done: the lock is tested this many times, with growing gaps in which
  * others may run, before this thread sleeps. */
 #ifndef ROBUST_LOCK_LOOKS
 #define ROBUST_LOCK_LOOKS 10
@@ -287,7 +287,7 @@ ROBUST_SELDOM static int robust_take_mutex(robust_lock *lock) {
     return robust_mend_mutex(&lock->mutex, taken);
 }
 
-/* Makes a lock, in memory that the processes share, before they fork; false where the system has
+/* Makes a lock, in memory that the processes share, before they fork; false if the system has
  * none. */
 static inline bool robust_lock_make(robust_lock *lock, bool is_short) {
     atomic_init(&lock->word, 0);
@@ -296,9 +296,9 @@ static inline bool robust_lock_make(robust_lock *lock, bool is_short) {
     return !lock->is_mutex || robust_make_mutex(&lock->mutex);
 }
 
-/* Waits for the lock, which this thread has not: 0, or EOWNERDEAD where its last owner died, which
- * takes it too; any other number is that of an error. Where one dies that was told EOWNERDEAD, the
- * next one is told so again. */
+/* Waits for the lock, which this thread does not own: 0, or EOWNERDEAD if its last owner died, which
+ * takes it too; any other number is that of an error. If a thread that got EOWNERDEAD dies, the
+ * next one gets it again. */
 static inline int robust_lock_take(robust_lock *lock) {
     return __builtin_expect(lock->is_mutex, false) ? robust_take_mutex(lock)
                                                    : robust_take_word(lock);
@@ -338,7 +338,7 @@ static inline bool robust_mark_is_owned(robust_mark *mark, const robust_lock *by
 }
 
 /* By the owner of the lock, of a mark that is not owned. A thread that dies in here may leave it owned
- * for ever, so it is noted before, and robust_mark_reset called for it. */
+ * for good, so it is noted before, and robust_mark_reset is called for it. */
 static inline void robust_mark_take(robust_mark *mark, const robust_lock *by) {
     if (__builtin_expect(!by->is_mutex, true))
         robust_set_mark(mark);

@@ -10,7 +10,7 @@
 #
 #   capi/run.sh [--quick]
 #
-# --quick leaves out the 2 GB, `locks` and `lanes`. CACHE_C_LIB=FILE in the environment is a library to link in place of
+# --quick leaves out the 2 GB, `locks` and `lanes`. CACHE_C_LIB=FILE in the environment is a library to link instead of
 # the engine's assembly text.
 set -eu -o pipefail
 here=$(cd "$(dirname "${BASH_SOURCE[0]}")" && pwd)

@@ -1,11 +1,11 @@
 #!/usr/bin/env bash
 # SPDX-License-Identifier: MIT
-# Plays each case of docs/differences/ on PHP's APCu and on the program, and tells each that prints something else than
-# its folder says. Where several workers meet, what stands there is judged as an output of the case's script, and so is
-# what the program prints of it. With the extension, SO, it plays the PHP of each case there too: it prints what APCu
-# prints in just the cases that say so. The page that is made of the cases has to be up to date. With --program the
-# program's side alone is played, which needs no PHP.
-# Usage: checks/differences.sh [--program] [PROGRAM [SO]]; else it needs php with apcu and pcntl, and with SO php-dev.
+# Plays each case of docs/differences/ on PHP's APCu and on the program, and reports each whose output is not the one in
+# its folder. If several workers meet, the output in the folder is judged as an output of the case's script, and so is
+# that of the program. With the extension, SO, it plays the PHP of each case there too: it prints what APCu
+# prints exactly in the cases that say so. The page that is made of the cases has to be up to date. With --program only
+# the program's side is played, which needs no PHP.
+# Usage: checks/differences.sh [--program] [PROGRAM [SO]]; without --program it needs php with apcu and pcntl, and with SO php-dev.
 set -eu
 of_program=''
 if [ "${1:-}" = --program ]; then
@@ -25,7 +25,7 @@ settings() {
     sed -n -e '2s/^\/\/ apc/apc/' -e '2s/, /\n/g' -e '2{/^apc/p' -e '}' "$1"
 }
 
-# What PHP prints for a case, without its warnings; with a folder of settings in place of its own.
+# What PHP prints for a case, without its warnings; with a folder of settings instead of its own.
 ask_php() {
     local words=() setting
     [ $# = 1 ] || local -x PHP_INI_SCAN_DIR=$2
@@ -53,7 +53,7 @@ judge() {
     cat "$1/case.apcu" "$2" | "$program" "${options[@]}" --verify "$(wc -c <"$1/case.apcu")" 2>&1 || true
 }
 
-# Tells of a case and a side what it prints beside what it has to.
+# Reports for a case and a side what it prints, and what it should.
 tell() {
     others=$((others + 1))
     echo "${1##*/}: $2 prints something else" >&2
@@ -69,7 +69,7 @@ try_output() {
     echo "${1##*/}: $2 is no output of its script: $verdict" >&2
 }
 
-# A folder of PHP's settings, but with the extension in place of APCu.
+# A folder of PHP's settings, but with the extension instead of APCu.
 settings_with() {
     local file
     mkdir "$scratch/settings"
@@ -139,4 +139,4 @@ for folder in "$cases"/[0-9]*; do
     [ -z "$so" ] || try_extension "$folder"
 done
 [ "$others" = 0 ] || exit 1
-echo "$count cases of docs/differences print on both sides what stands there${so:+, and with the extension what they say}"
+echo "$count cases of docs/differences print on both sides what their pages say${so:+, and with the extension what they say}"

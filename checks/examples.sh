@@ -1,6 +1,6 @@
 #!/usr/bin/env bash
 # SPDX-License-Identifier: MIT
-# The commands of the pages of examples/ print what stands there behind them.
+# The commands of the pages of examples/ print the output that follows them.
 # Usage: checks/examples.sh [PROGRAM], where PROGRAM is the built apcu_run; it needs php with apcu and pcntl.
 set -eu
 here=$(cd "$(dirname "${BASH_SOURCE[0]}")" && pwd)
@@ -31,11 +31,11 @@ while IFS= read -r line; do
             command=${line#'    $ '}
             ;;
         '    '*) [ -z "$command" ] || wanted+="${line#'    '}"$'\n' ;;
-        # An empty line may stand within what is printed.
+        # An empty line may be within the output.
         '') [ -z "$command" ] || wanted+=$'\n' ;;
         *) check ;;
     esac
 done < <(cat examples/README.md examples/RUST.md)
 check
 [ "$others" = 0 ] || exit 1
-echo "$count commands of the pages of examples/ print what stands there"
+echo "$count commands of the pages of examples/ print what the pages say"

@@ -1,7 +1,7 @@
 #!/usr/bin/env bash
 # SPDX-License-Identifier: MIT
 # Tries the Debian package of the extension: dpkg-buildpackage makes it, the same twice, lintian has no error, no page in
-# it has a dead link. Then it is installed in place of php-apcu, upgraded, and php-apcu is installed again, each step
+# it has a dead link. Then it is installed instead of php-apcu, upgraded, and php-apcu is installed again, each step
 # checked. That is done on a copy of this system that is thrown away, an overlay over its files in a namespace of its own.
 #
 #   checks/package.sh

@@ -22,7 +22,7 @@ tell() {
     others=1
 }
 
-# The lines of README between two, without their four spaces, stand in a file as they are, but for where they begin.
+# The lines of README between two, without their four spaces, are in a file as they are, except for where they begin.
 shown() {
     local from=$1 to=$2 file=$3 lines
     lines=$(sed -n "/^    $from/,/$to/p" README.md | sed 's/^ *//')

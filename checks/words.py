@@ -28,7 +28,7 @@ STOP = [
     (r"\bwhere (?:there|it|they|he|one|none|no|all|some|any|a|an) (?:is|are|was|were|has|have)\b", "if, when"),
     (r"\b(?:gives?|given|gave|giving) back\b", "free, release, return"),
     (r"\b(?:lets?|letting) (?:it |them |one |all )?go\b", "release, unpin"),
-    (r"\bnobody\b", "no process, no caller"),
+    (r"(?<!user )(?<!= )\bnobody\b", "no process, no caller"),  # nobody is also a user
     (r"\bthe dead\b", "dead processes"),
     (r"\b[Ww]ho (?:copies|waits|asks|calls|changes|comes|dies|finds|has|is|does)\b", "a process that, the caller"),
     (r"\bstands? (?:there|whole|in the way)\b", "is"),

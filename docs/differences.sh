@@ -1,7 +1,7 @@
 #!/usr/bin/env bash
 # SPDX-License-Identifier: MIT
 # Writes docs/DIFFERENCES.md: the frame docs/differences/page.md, with a table of the cases A to B of docs/differences/
-# in place of each line `{cases A to B}`. A case that breaks the form, or is in no table, is refused.
+# instead of each line `{cases A to B}`. A case that breaks the form, or is in no table, is refused.
 # With --check nothing is written, and a page that is not what the cases make is refused.
 # Usage: docs/differences.sh [--check]
 set -eu

@@ -9,7 +9,7 @@ function call(string $word, mixed ...$arguments): string
     return implode(' ', [$word, ...array_map('serialize', $arguments)]) . "\n";
 }
 
-// What the generator gives stands in parentheses.
+// The generator's value is in parentheses.
 function entry(string $key, mixed $value, int $ttl = 0): string
 {
     return 'apcu_entry ' . serialize($key) . ' (' . serialize($value) . ') ' . serialize($ttl) . "\n";

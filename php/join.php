@@ -3,7 +3,7 @@
 // php join.php [--one] FOLDER > INPUT
 // One input of apcu_run from the scripts of several processes: a worker for each, in the order in which they started.
 // With --one there is one worker, which makes the calls of all processes in the order of their seconds. So the time is
-// the same for all, as it was for the site. Of one second's order only that of each process is known. In place of the
+// the same for all, as it was for the site. Within one second only the order of each process is known. Instead of the
 // folder its files can be named.
 
 declare(strict_types=1);
@@ -15,7 +15,7 @@ require __DIR__ . '/events/files.php';
 require __DIR__ . '/events/stretches.php';
 require __DIR__ . '/report/site.php';
 
-/** What the recorder calls full, and nothing is written behind. */
+/** The size at which the recorder regards a file as full, after which nothing is written. */
 const FULL_BYTES = 62_000_000;
 const USUAL_SLOTS = 4096;
 
@@ -23,7 +23,7 @@ help($argv);
 ini_set('memory_limit', '-1');
 [$is_one, $files] = asked(array_slice($argv, 1));
 if (array_filter($files, is_recorded(...)) !== []) {
-    give_up('that is a record of the extension, which is in order: judge.php and report.php take it as it is');
+    give_up('this is a record of the extension, whose events are in order already: give it to judge.php or report.php');
 }
 $scripts = in_order(scripts_of($files));
 $taken = $is_one ? $scripts : array_slice($scripts, 0, MOST_WORKERS);
@@ -49,7 +49,7 @@ function asked(array $words): array
     return $files === [] ? give_up('usage: php join.php [--one] FOLDER > INPUT') : [$files !== $words, $files];
 }
 
-/** What the recorder wrote: the files of folders, and others but for those that stand beside scripts. */
+/** What the recorder wrote: the files of folders, and others except those that accompany scripts. */
 function scripts_of(array $paths): array
 {
     $scripts = [];
@@ -81,7 +81,7 @@ function in_order(array $paths): array
     return array_keys($starts);
 }
 
-/** Up to which second all calls of these scripts fit in an input; where some do not, that is told. */
+/** Up to which second all calls of these scripts fit into an input; if some do not, that is printed. */
 function last_second(array $paths): int
 {
     $sizes = $counts = [];
@@ -91,7 +91,7 @@ function last_second(array $paths): int
             $sizes[$second] = ($sizes[$second] ?? 0) + strlen($text) + $questions;
             $counts[$second] = ($counts[$second] ?? 0) + $events;
         }
-        // What comes behind the last second of a full one was not recorded.
+        // What comes after the last second of a full one was not recorded.
         $full = filesize($path) > FULL_BYTES ? min($full, $second ?? PHP_INT_MAX) : $full;
     }
     ksort($sizes);
@@ -200,7 +200,7 @@ function part(int $request, int $second, string $calls, int $questions, int $eve
     }
 }
 
-/** What the recorder left out of these scripts, and for how many values a string stands, by kind. */
+/** What the recorder left out of these scripts, and how many values a string replaces, by kind. */
 function tell_left(array $paths): void
 {
     foreach (sums_left($paths) as $how => $sums) {

@@ -42,7 +42,7 @@ function asked(array $words): array
         give_up(USAGE);
     }
     if ($is_proved && (!is_file($program) || !is_executable($program))) {
-        give_up("$program is no program: say where apcu_run is with --program");
+        give_up("$program is not an executable: build it by ./prove, or name apcu_run with --program");
     }
     return [$is_proved, $replayer, $program, $server, $paths[0]];
 }

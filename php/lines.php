@@ -1,12 +1,12 @@
 <?php // SPDX-License-Identifier: MIT
 
-// Lines of scripts and of what apcu_run prints. A string in them may have line feeds of its own.
+// Lines of scripts and of the output of apcu_run. A string in them may have line feeds of its own.
 
 declare(strict_types=1);
 
 namespace ApcuRecord;
 
-/** The place behind the line that begins at a place, or null where the text ends before. */
+/** The place after the line that begins at a place, or null if the text ends before. */
 function line_end(string $text, int $at): ?int
 {
     $size = strlen($text);
@@ -14,7 +14,7 @@ function line_end(string $text, int $at): ?int
         if ($text[$at] === "\n") {
             return $at + 1;
         }
-        // A string is so many bytes between quotes, and its length stands between the last two colons.
+        // A string is N bytes between quotes, and its length N is between the last two colons.
         $digits = strrpos($text, ':', $at - 2 - $size) + 1;
         $at += (int) substr($text, $digits, $at - 1 - $digits) + 2;
         if ($at > $size) {
@@ -65,7 +65,7 @@ function second_of(string $line): int
     return (int) substr($line, (int) strpos($line, ':') + 1);
 }
 
-/** The first argument of a line, where it is a string. */
+/** The first argument of a line, if it is a string. */
 function key_of(string $line): ?string
 {
     return preg_match('/^[A-Za-z_]+ s:([0-9]+):"/', $line, $found) === 1
@@ -73,7 +73,7 @@ function key_of(string $line): ?string
         : null;
 }
 
-/** How many members the array has that stands at a place, or null where none does. */
+/** How many members the array at a place has, or null if there is none. */
 function members_of(string $text, int $at = 0): ?int
 {
     return preg_match('/\Ga:([0-9]+):/', $text, $found, 0, $at) === 1 ? (int) $found[1] : null;
@@ -89,7 +89,7 @@ function opened(string $path, string $mode = 'rb')
     return $file === false ? give_up("$path: " . reason()) : $file;
 }
 
-/** Writes all of a text on a stream that is told by a name. */
+/** Writes all of a text to a stream with this name in messages. */
 function put($stream, string $text, string $name = 'the output'): void
 {
     if (@fwrite($stream, $text) !== strlen($text)) {

@@ -1,7 +1,7 @@
 <?php // SPDX-License-Identifier: MIT
 
 // php map.php OUTPUT > map.svg
-// Draws the map that apcu_run printed with --map 1. In OUTPUT more may stand before it, such as replies and a journal.
+// Draws the map that apcu_run printed with --map 1. In OUTPUT more may precede it, such as replies and a journal.
 
 declare(strict_types=1);
 

@@ -91,16 +91,16 @@ function asked(array $words): array
     if (is_recorded($inputs[0])) {
         $replayer = replayer($replayer);
     } elseif (!is_file($program) || !is_executable($program)) {
-        give_up("$program is no program: say where it is with --program");
+        give_up("$program is not an executable: build it by ./prove, or name apcu_run with --program");
     }
     if ($page !== null) {
-        // Told before minutes of play, and what stands there is kept until there is something new.
+        // Printed before minutes of play, and kept until there is something new.
         opened($page, 'cb');
     }
     return [$program, $replayer, $page, $settings, $inputs[0]];
 }
 
-/** A line of the table; or the message where there are no cells. */
+/** A line of the table; or the message if there are no cells. */
 function line(string $setting, array|string $cells): string
 {
     return is_string($cells)

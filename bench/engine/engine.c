@@ -1,16 +1,16 @@
 /* SPDX-License-Identifier: MIT */
 /* Times of this repository's engine, by the library for C, and of APCu's, by its own C functions:
- * a module for PHP, since APCu's engine stands in one. Both are called in the same loops, with the
+ * a module for PHP, since APCu's engine is inside one. Both are called in the same loops, with the
  * same keys and values, batch by batch in turn.
  *
- * engine_bench(rows) prints lines "SIDE PICOSECONDS CALL": the least of all batches, a call. The
- * sides are `plain`, ours with no lock, `locked`, ours with a robust lock of all processes round
+ * engine_bench(rows) prints lines "SIDE PICOSECONDS CALL": the lowest of all batches, per call. The
+ * sides are `plain`, ours without a lock, `locked`, ours with a robust lock of all processes around
  * each call, and `apcu`, which takes its own lock. A key is a string of 10 bytes whose hash is not
- * known yet, and a text that is fetched goes into a new string of PHP's, which is let go, as both
+ * known yet, and a text that is fetched is copied into a new string of PHP's, which is freed, as both
  * would do it in an extension.
  *
- * engine_at_once(rows, processes) prints such lines of some calls, with the sides that have a lock,
- * where so many processes call at once: picoseconds by the clock for each call of all. */
+ * engine_at_once(rows, processes) prints such lines for some calls, with the sides that have a lock,
+ * while this many processes call at once: picoseconds by the clock for each call of all. */
 #include "calls.h"
 
 #include "../../capi/shared_cache.h"
@@ -108,7 +108,7 @@ static struct at_once {
     uint64_t ends[MOST_PROCESSES];
 } * at_once;
 
-/* A process makes so many calls, each from another row on, and is gone. */
+/* A process makes `calls` calls, each from another row on, and ends. */
 static void call_and_exit(struct rows *of, call *one, size_t calls, int process) {
     bool is_good = true;
     while (!atomic_load(&at_once->is_begun))
@@ -121,7 +121,7 @@ static void call_and_exit(struct rows *of, call *one, size_t calls, int process)
     _exit(!is_good);
 }
 
-/* Picoseconds by the clock for each call of all that so many processes make. */
+/* Picoseconds by the clock for each call of all that this many processes make. */
 static uint64_t time_at_once(const struct measure *of, int side, int processes) {
     size_t calls = of->kind < TEN_KB ? 300000 : 30000;
     call *one = on_side(of, side);
@@ -193,7 +193,7 @@ static uint32_t prime_from(uint32_t number) {
     return number;
 }
 
-/* Makes and fills both caches; false where there is none of ours. APCu takes a prime number of
+/* Makes and fills both caches; false if there is none of ours. APCu takes a prime number of
  * slots, and ours is even. */
 static bool start(size_t all) {
     cache_shape shape = {.words = 1 << 24, .slots = 4096, .segments = 1};
@@ -257,7 +257,7 @@ PHP_FUNCTION(engine_at_once) {
     at_once =
         mmap(NULL, sizeof *at_once, PROT_READ | PROT_WRITE, MAP_SHARED | MAP_ANONYMOUS, -1, 0);
     if (at_once == MAP_FAILED || processes < 1 || processes > MOST_PROCESSES) {
-        zend_throw_error(NULL, "there are not so many processes");
+        zend_throw_error(NULL, "too many processes");
         return;
     }
     if (!start(tens(all)))

@@ -3,7 +3,7 @@
 // Times of PHP's calls of a cache, in one process: php calls.php KEY_BYTES ROWS names|times
 // prints the calls' names, one a line, or their times, nanoseconds of the processor each, in one line: the least of so
 // many rounds without the loop's own time. Keys are called in an order of their own, which is not the one in which their
-// rows were stored, so that no row lies behind the one of the call before.
+// rows were stored, so that no row is right after the one of the call before.
 
 declare(strict_types=1);
 
@@ -11,7 +11,7 @@ declare(strict_types=1);
 [$key_bytes, $rows] = [(int) $key_bytes, (int) $rows];
 const ROUNDS = 7;
 
-/** Keys of so many bytes, which begin with a letter of their family. */
+/** Keys of this many bytes, which begin with a letter of their family. */
 function keys_of(string $family, int $bytes, int $count): array
 {
     $keys = [];
@@ -36,7 +36,7 @@ function spent(): float
     return 1e9 * ($used['ru_utime.tv_sec'] + $used['ru_stime.tv_sec']) + 1e3 * ($used['ru_utime.tv_usec'] + $used['ru_stime.tv_usec']);
 }
 
-/** Nanoseconds of one of so many calls. */
+/** Nanoseconds of one of this many calls. */
 function least(callable $loop, int $calls): float
 {
     $least = INF;

@@ -2,11 +2,11 @@
 
 // Load on a php-fpm whose workers are killed, one each second, and a judgement of each reply:
 // php hours.php SOCKET SCRIPT MASTER MINUTES CLIENTS PAUSE
-// The script is site/numbers.php. Each key is one client's, which alone stores under it, a higher number each time, and
-// waits for the reply; all clients fetch all keys. So a value is judged by its key and number: it is whole, it is no
-// older than that which the same client has seen under the key, and its owner finds the very one that it stored last. It
-// finds none only where meanwhile the cache was made anew or memory was short.
-// A line a minute, and at the end a line of all; the status is 1 where a reply was wrong, or none came in ten seconds.
+// The script is site/numbers.php. Each key belongs to one client, the only one that stores under it, a higher number each
+// time, and waits for the reply; all clients fetch all keys. So a value is judged by its key and number: it is whole, it
+// is no older than the one that the same client has seen under the key, and its owner finds the very one that it stored
+// last. It finds none only if meanwhile the cache was recreated or memory was short.
+// A line a minute, and at the end a line of all; the status is 1 if a reply was wrong, or none came in ten seconds.
 
 declare(strict_types=1);
 
@@ -17,13 +17,13 @@ require __DIR__ . '/site/numbers.php';
 [$master, $minutes, $clients, $pause] = [(int) $master, (float) $minutes, (int) $clients, (int) $pause];
 const KEYS = 40;
 
-/** What a client does: requests until a moment, with a pause of so many microseconds, and each second a line of counts for the parent. */
+/** What a client does: requests until a moment, with a pause of this many microseconds, and each second a line of counts for the parent. */
 function client(int $own, int $clients, string $socket, string $script, int $end, int $pause, mixed $tell): void
 {
     mt_srand($own);
     $count = ['good' => 0, 'none' => 0, 'lost' => 0, 'late' => 0, 'wrong' => 0, 'longest' => 0];
     // The last number seen under each key, those stored by this client, those whose reply was lost, and how often the
-    // cache was made anew and short of memory before each was stored.
+    // cache was recreated and short of memory before each was stored.
     [$seen, $stored, $unsure, $drops] = [[], [], [], []];
     $number = 0;
     $told = hrtime(true);

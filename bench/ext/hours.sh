@@ -1,10 +1,10 @@
 #!/usr/bin/env bash
 # SPDX-License-Identifier: MIT
-# php-fpm with eight workers under load for so many minutes, while one of them is killed each second: each reply is
-# judged by a value that tells its key and its number (hours.php). A line a minute, and one of all. The status is 1
-# where a reply was wrong, none came in ten seconds, or the server ended.
-# Usage: bench/ext/hours.sh [MINUTES [SO]] (60); it needs php-fpm. SIZE in the environment is the cache's size (2M, in
-# which all values have room; in 1M they have not), CLIENTS=N how many processes ask (12), and PAUSE=N how many
+# php-fpm with eight workers under load for MINUTES minutes, while one of them is killed each second: each reply is
+# judged by a value that contains its key and its number (hours.php). A line a minute, and one of all. The status is 1
+# if a reply was wrong, none came in ten seconds, or the server ended.
+# Usage: bench/ext/hours.sh [MINUTES [SO]] (60); it needs php-fpm. SIZE in the environment is the cache's size (2M, into
+# which all values fit; they do not fit into 1M), CLIENTS=N how many processes send requests (12), and PAUSE=N how many
 # microseconds each waits between two requests (0).
 set -eu
 here=$(cd "$(dirname "${BASH_SOURCE[0]}")/../../php/ext/checks" && pwd)
@@ -29,7 +29,7 @@ if ! kill -0 "$master"; then
     status=1
 fi
 stop "$master"
-# What the server says beside its workers' ends by the kills.
+# What the server logs besides the ends of its workers by the kills.
 grep -vE 'signal 9|child [0-9]+ started|fpm is running|ready to handle|Terminating|bye-bye|systemd monitor|an empty one has' \
     "$socket.log" | head -n 20 || true
 echo "status $status"

@@ -27,7 +27,7 @@ function found(mixed $value): void
 [$small, $page, $large] = [keys_of('small', 1000), keys_of('page', 100), keys_of('large', 4)];
 [$text, $long, $longest] = [str_repeat('x', 100), str_repeat('y', 10000), str_repeat('z', 1000000)];
 
-// Each work makes so many calls, from the place of its walk on.
+// Each work makes this many calls, from the place of its walk on.
 $works = [
     'nothing: `apcu_enabled`, which takes no lock' => [100, function (int $n) { while ($n-- > 0) { apcu_enabled(); } }],
     'fetch, 100 bytes' => [100, function (int $n, int $at) use ($small) { while ($n-- > 0) { found(apcu_fetch($small[$at++ * 7 % 1000])); } }],
@@ -77,7 +77,7 @@ function each_timed(callable $work, int $batch, int $at, int $begun, int $end): 
     return [$count, $now - $begun, $longest];
 }
 
-/** Ends all where one is stuck or failed. */
+/** Ends all if one is stuck or failed. */
 function fail(array $children, string $why): never
 {
     foreach ($children as [$id]) {

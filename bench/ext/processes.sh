@@ -1,11 +1,11 @@
 #!/usr/bin/env bash
 # SPDX-License-Identifier: MIT
-# Calls a second of 2, 4, 8 and 16 processes on one cache, and the longest call, beside PHP's APCu, in turn in one
+# Calls a second of 2, 4, 8 and 16 processes on one cache, and the longest call, compared with PHP's APCu, in turn in one
 # run: fetches of three sizes, one counter, nine fetches and a store. A first ratio is ours / APCu's of the time
 # between two calls, a second one of the longest. The rows of `nothing` are the machine's own: with more processes
 # than processors each waits for one.
-# Usage: bench/ext/processes.sh [SO]; it needs php-apcu and php with pcntl. MILLISECONDS=N in the environment is how
-# long each work goes on (1000), PROCESSES='N..' how many there are; ROUNDS and NOISY are those of bench/quiet.sh.
+# Usage: bench/ext/processes.sh [SO]; it needs php-apcu and php with pcntl. MILLISECONDS=N in the environment is the
+# duration of each work (1000), PROCESSES='N..' the numbers of processes; ROUNDS and NOISY are those of bench/quiet.sh.
 set -eu -o pipefail
 here=$(cd "$(dirname "${BASH_SOURCE[0]}")/../../php/ext/checks" && pwd)
 . "$here/common.sh"

@@ -1,8 +1,8 @@
 #!/usr/bin/env bash
 # SPDX-License-Identifier: MIT
-# Processor time of each call of PHP beside PHP's APCu, in one process, in one run: keys of 10 and of 60 bytes, 1,000 and 100,000
-# rows of four kinds each, and 10,000 on the 4,096 slots of an ini file without apc.entries_hint. Both are measured in
-# turn in each round; a ratio is ours / APCu's. Then large values, with kept values and without, by kept.sh.
+# Processor time of each call of PHP compared with PHP's APCu, in one process, in one run: keys of 10 and of 60 bytes, 1,000
+# and 100,000 rows of four kinds each, and 10,000 on the 4,096 slots of an ini file without apc.entries_hint. Both are
+# measured in turn in each round; a ratio is ours / APCu's. Then large values, with kept values and without, by kept.sh.
 # Usage: bench/ext/run.sh [SO]; it needs php-apcu. SIZES='ROWS[/SLOTS]..' in the environment are other rows, on as many
 # slots or on four times as many. ROUNDS and NOISY are those of bench/quiet.sh.
 set -eu

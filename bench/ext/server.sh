@@ -1,5 +1,5 @@
 # SPDX-License-Identifier: MIT
-# php-fpm and nginx of a script's own, in its scratch folder; scripts of this folder read this file behind
+# php-fpm and nginx of a script's own, in its scratch folder; scripts of this folder read this file after
 # ../../php/ext/checks/common.sh.
 version=$(php -r 'echo PHP_MAJOR_VERSION, ".", PHP_MINOR_VERSION;')
 fpm=$(command -v "php-fpm$version" || command -v php-fpm || echo "/usr/sbin/php-fpm$version")
@@ -19,20 +19,20 @@ soon() {
     return 1
 }
 
-# A port of this machine that nobody listens on, from 18000 on.
+# A port of this machine on which no process listens, from 18000 on.
 free_port() {
     php -n -r 'for ($port = 18000; $port < 18900; $port++) {
         if ($s = @stream_socket_server("tcp://127.0.0.1:$port")) { echo $port; exit; }
     } exit(1);'
 }
 
-# Starts php-fpm with so many workers, and sets `master`: serve_fpm SO SOCKET WORKERS [-d NAME=VALUE..]. What `fpm_env` has,
-# lines of the pool's section, is added.
+# Starts php-fpm with this many workers, and sets `master`: serve_fpm SO SOCKET WORKERS [-d NAME=VALUE..]. The lines of the
+# pool's section in `fpm_env` are added.
 fpm_env=
 serve_fpm() {
     local so=$1 socket=$2 workers=$3 own
     shift 3
-    # Others may not be allowed to read where the extension stands.
+    # Other users may not be allowed to read the extension's folder.
     own="$scratch/$(basename "$socket").so"
     cp "$so" "$own"
     cat >"$socket.conf" <<END
@@ -77,7 +77,7 @@ http {
         listen 127.0.0.1:$port;
         root $folder;
         location / {
-            # A connection that is kept keeps a worker, and other requests wait for ever.
+            # A connection that is kept keeps a worker, and other requests wait without end.
             fastcgi_pass unix:$socket;
             fastcgi_index index.php;
             fastcgi_param SCRIPT_FILENAME \$document_root\$fastcgi_script_name;

@@ -2,10 +2,10 @@
 # SPDX-License-Identifier: MIT
 # Several servers: two masters of php-fpm, each with a cache of its own, before one redis-server, by Symfony's
 # ChainAdapter (site/products.php, which is all that a site needs). It shows which server's row each sees when rows
-# are loaded, changed, deleted and over; and times of a hit here, a hit there, and a miss that stores in both, beside
-# PHP's APCu in turn.
+# are loaded, changed, deleted and expired; and times of a hit here, a hit there, and a miss that stores in both, compared
+# with PHP's APCu in turn.
 # Usage: bench/ext/servers.sh [SO]; it needs php-apcu, php-fpm, php-redis, redis-server and php-symfony-cache. ROUNDS
-# and NOISY in the environment are those of bench/quiet.sh. The status is 1 where a server saw another row than it
+# and NOISY in the environment are those of bench/quiet.sh. The status is 1 if a server saw another row than it
 # should.
 set -eu -o pipefail
 here=$(cd "$(dirname "${BASH_SOURCE[0]}")/../../php/ext/checks" && pwd)

@@ -3,9 +3,9 @@
 # A site behind nginx and php-fpm with eight workers, under the load of wrk, over ours and over PHP's APCu in turn:
 # the shop of ../record/site and a page of Symfony's cache (site/symfony.php), each with an ample cache and with one
 # that has room for a part of the pages. A ratio is ours / APCu's of the time between two requests. How often memory
-# was short is told behind the table. Before it counts, each load goes on for a tenth of its time.
+# was short is printed after the table. Each load runs for a tenth of its time before it is measured.
 # Usage: bench/ext/site.sh [SO [SECONDS]]; it needs php-apcu, php-fpm, nginx, wrk and php-symfony-cache. AMPLE and
-# SMALL in the environment are the sizes (64M, 8M), CONNECTIONS=N how many requests are under way at once (16); ROUNDS
+# SMALL in the environment are the sizes (64M, 8M), CONNECTIONS=N the number of concurrent requests (16); ROUNDS
 # and NOISY are those of bench/quiet.sh.
 set -eu -o pipefail
 here=$(cd "$(dirname "${BASH_SOURCE[0]}")/../../php/ext/checks" && pwd)
@@ -39,7 +39,7 @@ one() {
     told=$(get /hits.php)
     stop "$front" "$master"
     rm -f "$socket"
-    # What the load's line has: told, requests a second, median, 99th hundredth, faults.
+    # What the load's line has: its name, requests a second, median, 99th hundredth, faults.
     set -- "$@" $(grep '^told' "$scratch/wrk") $told
     if [ "$9" != 0 ]; then
         cat "$scratch/wrk" "$socket.log" >&2

@@ -23,8 +23,8 @@ static void *zeros(size_t count, size_t size) {
     return at;
 }
 
-/* The words. A block begins with its size, a gap with its size and one, and the place of the gap
- * behind it or 0. Sizes are even, and so are places. */
+/* The words. A block begins with its size, a gap with its size and one, and the place of the next
+ * gap or 0. Sizes are even, and so are places. */
 enum { WORDS = 4 << 20 };
 static uint64_t *words;
 static uint32_t first_gap;
@@ -94,7 +94,7 @@ static void drop_gap(uint32_t place) {
             return;
 }
 
-/* The first gap of this size or a larger one; 0 where there is none. */
+/* The first gap of this size or a larger one; 0 if there is none. */
 static uint32_t first_fit(uint32_t size) {
     uint32_t i = 0;
     if (largest_of_32(sizes[SIZE_ROWS - 1]) < size)
@@ -104,7 +104,7 @@ static uint32_t first_fit(uint32_t size) {
     return 2 * i;
 }
 
-/* The last gap before a place; 0 where there is none. */
+/* The last gap before a place; 0 if there is none. */
 static uint32_t gap_before(uint32_t place) {
     uint32_t i = place / 2;
     for (int row = 0; row < BIT_ROWS; row++, i /= 64) {

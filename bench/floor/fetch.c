@@ -1,5 +1,5 @@
 /* SPDX-License-Identifier: MIT */
-/* What a program in C takes to print a fetch of one text that stands in a table of words, from the
+/* What a program in C takes to print a fetch of one text that is in a table of words, from the
  * words to a file that takes all: `hold` keeps the whole output until the last fetch, as a run of
  * this repository must; `stream` writes as its buffer of 256 KB fills; `copy` prints nothing, and
  * makes and frees a copy, as a loop of PHP's does.
@@ -32,7 +32,7 @@ static void flush(void) {
     len = 0;
 }
 
-/* Room for so many bytes: in the same buffer, or in one that has twice the size. */
+/* Room for this many bytes: in the same buffer, or in one that has twice the size. */
 static void make_room(size_t n, bool is_stream) {
     if (len + n <= capacity)
         return;

@@ -1,9 +1,9 @@
 #!/usr/bin/env bash
 # SPDX-License-Identifier: MIT
-# Floors in C, which hold no promise and only tell what this machine gives: what locks, atomic steps and fresh memory cost
-# (costs.c), what the calls of a cache take over the same words and rows with an index of gaps and no lock (cache.c), and
-# what it takes to print fetched texts where all output is held, where it is written as a buffer fills, and where none is
-# made (fetch.c). turns.c is for goals.sh. Each figure is the least of the rounds, and a round is kept only where the
+# Floors in C, which promise nothing and only show what this machine can do: the times of locks, atomic steps and fresh
+# memory (costs.c), of the calls of a cache over the same words and rows with an index of gaps and no lock (cache.c), and
+# of printing fetched texts if all output is held, if it is written as a buffer fills, and if none is
+# made (fetch.c). turns.c is for goals.sh. Each figure is the lowest of the rounds, and a round is kept only if the
 # machine is quiet (../quiet.sh).
 # Usage: bench/floor/run.sh
 set -eu -o pipefail

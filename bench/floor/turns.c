@@ -1,6 +1,6 @@
 /* SPDX-License-Identifier: MIT */
-/* What the host alone does to a loop that touches no memory: the longest of so many turns of some
- * 2 us each. Whoever measures the longest of as many calls has this in it.
+/* What the host alone does to a loop that touches no memory: the longest of COUNT turns of some
+ * 2 us each. A measurement of the longest of as many calls contains it.
  * Usage: turns COUNT. Prints the picoseconds of the longest turn. */
 #define _GNU_SOURCE
 #include <stdint.h>

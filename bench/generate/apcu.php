@@ -2,7 +2,7 @@
 // The calls of a generated run, with PHP's APCu in forked processes that share one segment: each draws its numbers
 // first, and then all make their calls. Prints the counters, a line each as `apcu_run --generate` prints them, and last
 // the nanoseconds a call, from the first start to the last end.
-// With the word `script` behind them it makes no call, and prints the calls as a script.
+// With the word `script` after them it makes no call, and prints the calls as a script.
 // Usage: apcu.php SEED WORKERS CALLS [script]
 [, $seed, $workers, $calls] = array_map('intval', $argv);
 
@@ -83,7 +83,7 @@ for ($w = 0; $w < $workers; $w++) {
         }
         apcu_store("begun$w", $begin);
         apcu_store("ended$w", hrtime(true));
-        return; // an extension may make PHP go on behind `exit`
+        return; // an extension may make PHP continue after `exit`
     }
 }
 for ($w = 0; $w < $workers; $w++) {

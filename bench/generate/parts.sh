@@ -3,7 +3,7 @@
 # own, and read quiet.sh before.
 generated_seed=7
 
-# Nanoseconds of a program with so many workers of so many calls; its summary stands in "$scratch/summary".
+# Nanoseconds of a program with this many workers of this many calls; its summary is in "$scratch/summary".
 generated_took() {
     local begin
     begin=$(now)
@@ -19,7 +19,7 @@ generated_run() {
     awk -v none="$none" -v some="$some" -v n=$(($2 * $3)) 'BEGIN { printf "%.1f %.1f\n", some / n, none / n }'
 }
 
-# Nanoseconds a call of PHP's loop; its counters stand in "$scratch/php".
+# Nanoseconds a call of PHP's loop; its counters are in "$scratch/php".
 generated_php() {
     php -d apc.enable_cli=1 -d apc.shm_size=32M -d apc.use_request_time=0 \
         "$(dirname "${BASH_SOURCE[0]}")/apcu.php" "$generated_seed" "$1" "$2" >"$scratch/php"

@@ -21,15 +21,15 @@ export GLIBC_TUNABLES=glibc.malloc.hugetlb=1
 php=
 if php_has apcu pcntl; then php=php; fi
 
-# What the program takes with so many workers, and PHP.
+# The time of the program with this many workers, and of PHP.
 both() {
-    local run beside=-
+    local run theirs=-
     run=$(generated_run "$program" "$1" "$calls")
     if [ -n "$php" ]; then
-        beside=$(generated_php "$1" "$calls")
+        theirs=$(generated_php "$1" "$calls")
         check_counters "$1 workers"
     fi
-    echo "$run $beside"
+    echo "$run $theirs"
 }
 
 echo "$calls calls of each worker"

@@ -10,7 +10,7 @@ program=${1:-$here/../../crates/apcu_run/out/apcu_run}
 scratch=$(mktemp -d)
 trap 'rm -rf "$scratch"' EXIT
 
-# A script that stores so many rows of 16 words, a thousand with each call, and deletes each tenth.
+# A script that stores this many rows of 16 words, a thousand with each call, and deletes each tenth.
 script() {
     awk -v rows="$1" 'BEGIN {
         print "worker"

@@ -30,7 +30,7 @@ for ($w = 0; $w < $workers; $w++) {
                 apcu_fetch($key);
             }
         }
-        return; // an extension may make PHP go on behind `exit`
+        return; // an extension may make PHP continue after `exit`
     }
 }
 for ($w = 0; $w < $workers; $w++) {

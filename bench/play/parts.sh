@@ -11,7 +11,7 @@ script_took() {
     echo $((($(now) - begin) / 1000))
 }
 
-# Those of a program on "$scratch/script", and on "$scratch/idle", which does the same but for what is measured.
+# Those of a program on "$scratch/script", and on "$scratch/idle", which does the same except for what is measured.
 both_took() {
     echo "$(script_took "$1" "$scratch/script") $(script_took "$1" "$scratch/idle")"
 }

@@ -1,17 +1,17 @@
 #!/usr/bin/env bash
 # SPDX-License-Identifier: MIT
 # Calls a second of many workers on one cache: apcu_run with 1, 2 and 4 workers, and in the same run PHP's APCu with as
-# many forked processes (where php with apcu and pcntl is installed). Half of the calls fetch, a quarter stores and a
+# many forked processes (if php with apcu and pcntl is installed). Half of the calls fetch, a quarter stores and a
 # quarter counts; each worker has keys of its own (`apart`), or all have one key and one counter (`one`). Then all
-# calls count on one counter (`counter`). apcu_run is the whole program, from a script to its output; `calls` leaves
-# out what as many lines `apcu_enabled` take, which are read and printed and are no events. PHP's figure is that of its
+# calls count on one counter (`counter`). apcu_run is the whole program, from a script to its output; `calls` is
+# less the time of as many lines `apcu_enabled`, which are read and printed and are no events. PHP's figure is that of its
 # loop alone. Then microseconds of a fetch of one text of 100 bytes to 1 MB, printed whole, without the start of the
-# program, and beside stores of such texts, of which each changes all words; and of such stores alone, without what as
-# many lines `apcu_add` take, which are read and find the row. At last seconds of one million calls of one worker, half
-# of them fetches, a quarter stores and a quarter counts, from a script to its output, beside PHP's loop. Ratios are of
-# times, ours / PHP's. A figure is the least of three rounds, which are kept only where the machine is quiet (quiet.sh).
-# Usage: bench/play/run.sh [PROGRAM]. DIVIDE=N in the environment makes so many times fewer calls, which tries the
-# script alone.
+# program, alone and during stores of such texts, of which each changes all words; and of such stores alone, less the time
+# of as many lines `apcu_add`, which are read and find the row. In the end seconds of one million calls of one worker, half
+# of them fetches, a quarter stores and a quarter counts, from a script to its output, compared with PHP's loop. Ratios are
+# of times, ours / PHP's. A figure is the lowest of three rounds, which are kept only if the machine is quiet (quiet.sh).
+# Usage: bench/play/run.sh [PROGRAM]. DIVIDE=N in the environment makes one N-th of the calls, which only tests the
+# script.
 set -eu
 here=$(cd "$(dirname "${BASH_SOURCE[0]}")" && pwd)
 program=${1:-$here/../../crates/apcu_run/out/apcu_run}
@@ -29,18 +29,18 @@ if php_has apcu pcntl; then php=php; fi
 
 # What the two scripts take in the program, and the loop in PHP.
 both_and_php() {
-    local took beside=-
+    local took theirs=-
     took=$(both_took "$program")
-    if [ -n "$php" ]; then beside=$(played_php "$@"); fi
-    echo "$took $beside"
+    if [ -n "$php" ]; then theirs=$(played_php "$@"); fi
+    echo "$took $theirs"
 }
 
 # The same of a million generated calls, which have one script.
 script_and_php() {
-    local took beside=-
+    local took theirs=-
     took=$(script_took "$program" "$scratch/script")
-    if [ -n "$php" ]; then beside=$(generated_php 1 "$1"); fi
-    echo "$took $beside"
+    if [ -n "$php" ]; then theirs=$(generated_php 1 "$1"); fi
+    echo "$took $theirs"
 }
 
 printf '%-8s %7s %6s %12s %12s %12s\n' keys workers ratio program/s calls/s php/s

@@ -1,7 +1,7 @@
 # SPDX-License-Identifier: MIT
 # Scripts whose calls are counted by the second or judged; programs of bench/ and checks/ read this file.
 
-# Scripts of so many workers with so many calls.
+# Scripts of this many workers with this many calls.
 mixed() {
     awk -v workers="$1" -v calls="$2" -v keys="$3" 'BEGIN {
         for (w = 0; w < workers; w++) {
@@ -25,7 +25,7 @@ idle() {
     }'
 }
 
-# Scripts of workers that fetch a text of so many bytes, which the first call of worker 0 stores; one of so many calls
+# Scripts of workers that fetch a text of this many bytes, which the first call of worker 0 stores; one of this many calls
 # (0: none) stores another one of that length: three texts in turn, so that each store changes all of its words.
 texts() {
     awk -v workers="$1" -v calls="$2" -v bytes="$3" -v every="$4" '
@@ -47,7 +47,7 @@ texts() {
         }'
 }
 
-# Writes two scripts of one worker to "$scratch": `script` with so many stores of texts of so many bytes, of which each
+# Writes two scripts of one worker to "$scratch": `script` with this many stores of texts of this many bytes, of which each
 # changes all of its words, and `idle` with as many lines that are read and find the row, so that they store nothing.
 stores() {
     texts 1 "$1" "$2" 1 >"$scratch/script"
@@ -55,7 +55,7 @@ stores() {
     sed '3,$s/^apcu_store/apcu_add/' "$scratch/script" >"$scratch/idle"
 }
 
-# A script of the calls of one worker of a generated run: so many, with the program's own numbers from this seed. Half of
+# A script of the calls of one worker of a generated run: this many, with the program's own numbers from this seed. Half of
 # them fetch a text of 0 to 199 bytes, a quarter stores one, a quarter counts.
 generated() {
     php "$(dirname "${BASH_SOURCE[0]}")/../generate/apcu.php" "$1" 1 "$2" script

@@ -1,7 +1,7 @@
 #!/usr/bin/env bash
 # SPDX-License-Identifier: MIT
 # The time and memory of a run that loads a bundle of some 64 MB, and one of half as many records, into a cache of 128 MB
-# that has room for all; beside it those of a run whose script stores the same rows, where that script is no longer than
+# that has room for all, compared with a run whose script stores the same rows, if that script is no longer than
 # an input may be. A record is a key of 8 bytes and a text of 100.
 # Usage: bench/preload/run.sh [PROGRAM]
 set -eu
@@ -13,7 +13,7 @@ options=(--shm-size 128M --slots 524288)
 # What a worker asks of the cache when all is loaded.
 printf 'worker\napcu_fetch s:8:"k0000007";\napcu_cache_info b:1;\n' >"$scratch/asking"
 
-# Lines of so many records, each with these bytes before it.
+# Lines of this many records, each with these bytes before it.
 records() {
     awk -v records="$1" -v before="$2" 'BEGIN {
         srand(7)
@@ -46,12 +46,12 @@ for count in 266000 532000; do
     cat "$scratch/bundle" "$scratch/asking" >"$scratch/input"
     loaded=$(spent --preload "$bytes")
     check "$count"
-    beside='- -'
+    theirs='- -'
     # One worker stores and asks.
     { echo worker; records "$count" 'apcu_store '; sed 1d "$scratch/asking"; } >"$scratch/input"
     if [ "$(wc -c <"$scratch/input")" -le 67108864 ]; then
-        beside=$(spent)
+        theirs=$(spent)
         check "$count"
     fi
-    echo "$count $bytes $loaded $beside" | awk '{ printf "%9d %10d %9s %8s %9s %8s\n", $1, $2, $3, $4, $5, $6 }'
+    echo "$count $bytes $loaded $theirs" | awk '{ printf "%9d %10d %9s %8s %9s %8s\n", $1, $2, $3, $4, $5, $6 }'
 done

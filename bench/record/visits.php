@@ -1,6 +1,6 @@
 <?php // SPDX-License-Identifier: MIT
 
-// php visits.php URL COUNT SEED: makes so many visits to the shop in site/. Few products are asked for often, most of
+// php visits.php URL COUNT SEED: makes COUNT visits to the shop in site/. Few products are requested often, most of
 // them seldom.
 
 declare(strict_types=1);

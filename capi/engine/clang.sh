@@ -1,6 +1,6 @@
 #!/bin/bash
 # SPDX-License-Identifier: MIT
-# Takes the place of bin/clang in the toolchain folder that ./prove makes: compiles as the kit's clang would, ../kit/bin/clang,
+# Replaces bin/clang in the toolchain folder that ./prove makes: compiles as the kit's clang would, ../kit/bin/clang,
 # and writes the assembly text of the same module, for the same processor by the same options, into ../text.s.
 set -eu
 folder=${BASH_SOURCE[0]%/*}/..

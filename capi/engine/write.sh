@@ -2,7 +2,7 @@
 # SPDX-License-Identifier: MIT
 # Writes the engine as assembly text, cache_c.x86_64.s and cache_c.aarch64.s in this folder, so that it is built without
 # Rattle's kit. ../../prove --library proves the crates and builds the library for each processor; clang writes the text
-# of what it compiles. In front of it stand the verdicts and the checksums of the sources.
+# of what it compiles. It begins with the verdicts and the checksums of the sources.
 #
 #   capi/engine/write.sh            writes the texts; it needs the kit
 #   capi/engine/write.sh --compare  does the same elsewhere, and fails if a text here is another; it needs the kit

@@ -1,8 +1,8 @@
 <?php // SPDX-License-Identifier: MIT
 // Random calls on few keys: php fuzz.php moment|seconds|workers SEED COUNT script|printed
-// prints a script of so many calls, or plays them on PHP's APCu and prints what apcu_run has to print of their replies.
-// Over `seconds` some lines set the time, for which this waits as long, and the calls are left out that PHP answers
-// otherwise once a row's time is over. Of four `workers` each makes so many calls, of one event each; they are played
+// prints a script of COUNT calls, or plays them on PHP's APCu and prints what apcu_run has to print of their replies.
+// With `seconds` some lines set the time, for which this waits as long, and the calls are left out whose reply by PHP
+// differs once a row has expired. Of four `workers` each makes COUNT calls, of one event each; they are played
 // one by one in the order of the journal on standard input.
 
 function key_of_row(): string
@@ -25,7 +25,7 @@ function ttl(): int
     return [0, 0, 1, 2, 3, 1000][mt_rand(0, 5)];
 }
 
-// Null, a truth value, an integer or a string, at times a long one, so that workers meet while they copy.
+// Null, a boolean, an integer or a string, at times a long one, so that workers meet while they copy.
 function scalar()
 {
     $long = str_repeat('yz', 5000);
@@ -33,7 +33,7 @@ function scalar()
     return $all[mt_rand(0, count($all) - 1)];
 }
 
-// A value of so many levels at most. Objects that were made before may be shared, and members of an array that hold
+// A value of at most this many levels. Objects that were made before may be shared, and members of an array that hold
 // no object may be references to one another.
 function value(int $levels, array &$made)
 {
@@ -69,7 +69,7 @@ function pattern()
     return [null, '/^a/', '/^a$/i', '/[0-9]/', '/k/'][mt_rand(0, 4)];
 }
 
-// In an array of PHP a key is an integer where it is the decimal of one.
+// In an array of PHP a key is an integer if it is the decimal of one.
 function with_integer_keys($answer)
 {
     if (!is_array($answer)) {
@@ -82,7 +82,7 @@ function with_integer_keys($answer)
     return $all;
 }
 
-// A generator of so many levels at most: its text, and what it gives.
+// A generator of at most this many levels: its text, and its value.
 function generator(int $levels): array
 {
     if ($levels === 0 || mt_rand(0, 1) === 0) {
@@ -94,7 +94,7 @@ function generator(int $levels): array
     return ["($text)", $give];
 }
 
-// An entry of so many levels at most: its text, and what it gives.
+// An entry of at most this many levels: its text, and its value.
 function entry(int $levels): array
 {
     [$key, $ttl] = [key_of_row(), ttl()];
@@ -157,7 +157,7 @@ function swap(): array
     return [$line, fn () => serialize(apcu_cas($key, $expect, $set))];
 }
 
-// What is told of a row; all moments are 0.
+// Information about a row; all moments are 0.
 function key_info(): array
 {
     $key = key_of_row();
@@ -169,7 +169,7 @@ function key_info(): array
     return ['apcu_key_info ' . serialize($key), $play];
 }
 
-// What is told of the cache, without its size.
+// Information about the cache, without its size.
 function cache_info(): array
 {
     $play = function () {
@@ -256,7 +256,7 @@ function call(string $how): array
     };
 }
 
-// Waits until so many seconds of the clock that APCu reads have begun since the first one.
+// Waits until this many seconds of the clock that APCu reads have begun since the first one.
 function wait_until(int $seconds): void
 {
     static $first = null;

@@ -11,7 +11,7 @@ program=${2:-$here/../../crates/apcu_run/out/apcu_run}
 scratch=$(mktemp -d)
 trap 'rm -rf "$scratch"' EXIT
 
-# Plays a seed's calls of a kind, so many a worker, on both, with an `apc.ttl`.
+# Plays a seed's calls of a kind, this many per worker, on both, with an `apc.ttl`.
 play() {
     local how=$1 seed=$2 count=$3 ttl=$4 of="$scratch/$1.$2"
     local settings=(-d apc.enable_cli=1 -d apc.shm_size=64M -d apc.use_request_time=0 -d apc.ttl="$ttl")

@@ -36,7 +36,7 @@ function key_of_array()
     return [mt_rand(-3, 9), (string) mt_rand(-3, 9), '05', '-0', '', bytes()][mt_rand(0, 5)];
 }
 
-// A value of so many levels at most. Values that were made before may be shared, by reference or as objects.
+// A value of at most this many levels. Values that were made before may be shared, by reference or as objects.
 function value(int $levels, array &$made)
 {
     switch (mt_rand(0, $levels > 0 ? 9 : 4)) {

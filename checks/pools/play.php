@@ -1,8 +1,8 @@
 <?php // SPDX-License-Identifier: MIT
 
 // php play.php SCRIPT
-// Plays a script of one worker on PHP's APCu: its pools' lines with the class Pool, and those that look at a key beside
-// pools. Prints what apcu_run prints, up to its journal. At a line `time` this waits for so many seconds of the clock.
+// Plays a script of one worker on PHP's APCu: its pools' lines with the class Pool, and those that read a key outside
+// pools. Prints what apcu_run prints, up to its journal. At a line `time` this waits for as many seconds of the clock.
 
 declare(strict_types=1);
 
@@ -47,7 +47,7 @@ function answer(string $word, array $of): string
     });
 }
 
-/** The values behind a line's word. Each value has one text, so its text tells where the next one begins. */
+/** The values after a line's word. Each value has one text, so its text ends where the next one begins. */
 function arguments(string $line): array
 {
     $values = [];
@@ -59,7 +59,7 @@ function arguments(string $line): array
     return $values;
 }
 
-/** Waits until so many seconds of the clock that APCu reads have begun since the first one. */
+/** Waits until this many seconds of the clock that APCu reads have begun since the first one. */
 function wait_until(int $seconds): void
 {
     static $first = null;

@@ -11,7 +11,7 @@ scratch=$(mktemp -d)
 trap 'rm -rf "$scratch"' EXIT
 settings=(-d apc.enable_cli=1 -d apc.shm_size=64M -d apc.ttl=0 -d apc.use_request_time=0)
 
-# Plays a seed's calls of a kind, so many, on both.
+# Plays a seed's calls of a kind, this many, on both.
 play() {
     local of="$scratch/$1.$2"
     php "$here/scripts.php" "$1" "$2" "$3" >"$of.script"

@@ -1,7 +1,7 @@
 <?php // SPDX-License-Identifier: MIT
 
-// php scripts.php moment|seconds SEED COUNT: a script of one worker with so many random calls of three pools, whose keys
-// are few, and with looks at keys of the cache. Over `seconds` some lines set the time.
+// php scripts.php moment|seconds SEED COUNT: a script of one worker with COUNT random calls of three pools, whose keys
+// are few, and with look-ups of keys of the cache. With `seconds` some lines set the time.
 
 declare(strict_types=1);
 
@@ -75,7 +75,7 @@ function plain(): mixed
     return [null, true, false, 0, -1, PHP_INT_MIN, '', "i:5;\n", str_repeat('yz', 500)][mt_rand(0, 8)];
 }
 
-/** A value of so many levels at most. */
+/** A value of at most this many levels. */
 function value(int $levels): mixed
 {
     $kind = $levels > 0 ? mt_rand(0, 4) : 0;

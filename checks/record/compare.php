@@ -1,8 +1,8 @@
 <?php // SPDX-License-Identifier: MIT
 
 // php compare.php SCRIPT REPLIES OUTPUT
-// Compares what apcu_run printed for a script of one process with what APCu answered. Differences are counted by the row
-// of docs/DIFFERENCES.md that names them; where no row names one the status is 1, and the first ten of these are told.
+// Compares what apcu_run printed for a script of one process with the replies of APCu. Differences are counted by the row
+// of docs/DIFFERENCES.md that names them; if no row names one the status is 1, and the first ten of these are printed.
 
 declare(strict_types=1);
 

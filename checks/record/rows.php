@@ -6,7 +6,7 @@ declare(strict_types=1);
 
 namespace ApcuRecord;
 
-/** What the calls so far tell of keys: for which of them a value was left out, and when a row's time is over. */
+/** What is known of keys from the calls so far: those for which a value was left out, and when a row has expired. */
 final class Seen
 {
     private const ROWS = [
@@ -23,7 +23,7 @@ final class Seen
     public int $now = 0;
     /** @var array<string, string> the row that names why a key's value was left out */
     private array $left = [];
-    /** @var array<string, string> the same of values for which a string stands in one of the next lines */
+    /** @var array<string, string> the same of values that a string replaces in one of the next lines */
     private array $stands = [];
     /** @var array<string, int> the last second of a row */
     private array $ends = [];

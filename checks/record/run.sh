@@ -1,9 +1,9 @@
 #!/usr/bin/env bash
 # SPDX-License-Identifier: MIT
 # Debian's suites for PSR-6 and PSR-16 over Symfony's cache on PHP's APCu, with and without php/record.php: the results
-# are the same. What the recorder, join.php, report.php and map.php can't read or write is one line. Where a program is
-# given, it plays what was recorded, random calls too, and each reply is compared with APCu's; and a report is made of
-# it. Then what recording costs.
+# are the same. Errors of the recorder, join.php, report.php and map.php in reading or writing are one line. If a program
+# is given, it plays what was recorded, random calls too, and each reply is compared with APCu's; and a report is made of
+# it. Then the cost of recording is measured.
 # Usage: checks/record/run.sh [PROGRAM]; it needs php-apcu, php-uopz, phpunit, php-symfony-cache, php-psr-simple-cache
 # and php-cache-integration-tests. KEEP=FOLDER in the environment keeps what was recorded.
 set -eu
@@ -12,14 +12,14 @@ program=${1:-}
 work=${KEEP:-$(mktemp -d)}
 mkdir -p "$work"
 [ -n "${KEEP:-}" ] || trap 'rm -rf "$work"' EXIT
-# Stores and fetches so many values.
+# Stores and fetches this many values.
 stored="$here/../../bench/record/cost.php"
 suites=(Pool Simple Namespaced TagAware)
 plain=(php -d apc.enable_cli=1 -d apc.ttl=0 -d apc.use_request_time=0 -d zend.assertions=1)
 loaded=("${plain[@]}" -d extension=uopz -d uopz.exit=1)
 recorded=("${loaded[@]}" -d auto_prepend_file="$here/../../php/record.php")
 
-# A suite's results, test by test: `plain`, `recorded`, or `replies` with APCu's replies beside the script.
+# A suite's results, test by test: `plain`, `recorded`, or `replies` with APCu's replies next to the script.
 suite() {
     local name=$1 how=$2 of="$work/$1.$2"
     local php=("${plain[@]}")
@@ -80,7 +80,7 @@ check_faults() {
     fault 'no folder' 'Failed to open stream' env APCU_RECORD_DIR="$work/file/none" "${recorded[@]}"
     fault 'no uopz' 'uopz is not loaded' "${plain[@]}" "${prepended[@]}"
     fault 'APCu is off' 'APCu is off' php -d extension=uopz -d apc.enable_cli=0 "${prepended[@]}"
-    # Where files may have so few bytes, a write ends as on a full disk.
+    # If files may have only this many bytes, a write ends as on a full disk.
     (trap '' XFSZ && ulimit -f 100 && fault 'full disk' 'Write of' env APCU_RECORD_DIR="$work/full" "${recorded[@]}")
     php "$here/../../php/join.php" "$work/full" >/dev/null 2>&1 || { echo 'full disk: no script' >&2; return 1; }
 }
@@ -109,7 +109,7 @@ check_messages() {
     message 'has no map' "$out" "$folder/map.php" "$script"
     message 'No such file' "$out" "$folder/report.php" --program "$folder/../apcu_run" "$work/none"
     message 'is a folder' "$out" "$folder/report.php" --program "$folder/../apcu_run" --html "$work" "$script"
-    message 'is no program' "$out" "$folder/report.php" --program "$work/none" "$script"
+    message 'is not an executable' "$out" "$folder/report.php" --program "$work/none" "$script"
     message 'no place' "$out" -d sys_temp_dir="$work/none" "$folder/report.php" --program "$folder/../apcu_run" "$script"
 }
 
@@ -140,7 +140,7 @@ check_replies() {
     return "$failed"
 }
 
-# A report has a line for each setting, the site's own one first and APCu's counts behind it, what was left out in the
+# A report has a line for each setting, the site's own one first, followed by APCu's counters, what was left out in the
 # last one; and the page has a picture of each cache.
 check_report() {
     local page="$work/page.html"

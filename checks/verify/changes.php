@@ -19,10 +19,10 @@ const KINDS = [
     'behind' => 'bytes behind the end',
 ];
 
-/** The verdict where the line `journal` is none any more. There may be another one in a string, and marks behind it. */
+/** The verdict where the line `journal` is none any more. There may be another one in a string, and marks after it. */
 const NO_JOURNAL = 'no: (?:journal|event [0-9]+)';
 
-/** An output, line by line, beside the scripts that it is of. */
+/** An output, line by line, with the scripts that it is of. */
 final class Output
 {
     /** @var list<string> lines of workers and replies */
@@ -87,7 +87,7 @@ final class Output
         }
     }
 
-    /** The events of a worker as far as they are known: up to its first walk, or with its end where it has none. */
+    /** The events of a worker as far as they are known: up to its first walk, or with its end if it has none. */
     private static function known(array $own): array
     {
         $walk = array_search(null, $own, true);
@@ -120,7 +120,7 @@ function events_of(string $word, string $line): ?int
     };
 }
 
-/** The place behind a string's text. */
+/** The place after a string's text. */
 function line_end_of_string(string $line, int $at): int
 {
     preg_match('/\Gs:([0-9]+):"/', $line, $found, 0, $at);
@@ -128,7 +128,7 @@ function line_end_of_string(string $line, int $at): int
 }
 
 /**
- * Some changes of an output: by kind the changed one, and the verdict that is due as a pattern.
+ * Some changes of an output: by kind the changed one, and the expected verdict as a pattern.
  *
  * @return array<string, array{string, string}>
  */
@@ -148,7 +148,7 @@ function changes_of(Output $of): array
     return $changes;
 }
 
-/** Another reply, or a line `worker` more or less: told by the first byte that differs, for the journal is as it was. */
+/** Another reply, or a line `worker` more or less: the verdict is the first byte that differs, since the journal is unchanged. */
 function of_replies(Output $of, array $replies): array
 {
     [$old, $new] = [$of->text(), $of->text($replies)];
@@ -209,7 +209,7 @@ function joined(Output $of): ?array
     return of_replies($of, array_replace($of->replies, [$line => substr($of->replies[$line], 0, -1)]));
 }
 
-/** Behind the end no worker has an event more, and what is no mark is none there. */
+/** After the end no worker has another event, and what is no mark is none there. */
 function behind(Output $of): ?array
 {
     if ($of->marks === []) {
@@ -220,8 +220,8 @@ function behind(Output $of): ?array
 }
 
 /**
- * Two lines swapped that count on one counter, and between which neither worker has another one. From what a counter
- * comes to one sees what it was before, so neither can have stood at the other one's place.
+ * Two swapped lines that count on one counter, between which neither worker has another one. Each reply shows the
+ * counter's value before it, so neither line can have been at the other one's place.
  */
 function swapped(Output $of): ?array
 {
@@ -245,7 +245,7 @@ function swapped(Output $of): ?array
     return [$of->text(null, $marks), 'no: (?:event|byte) [0-9]+'];
 }
 
-/** What the counter `n` was before this event, or null where it is no such event or was not counted. */
+/** The value of the counter `n` before this event, or null if it is no such event or was not counted. */
 function counted_from(Output $of, int $at): ?int
 {
     return preg_match('/^apcu_inc s:1:"n"; i:([0-9]+);\n$/D', (string) $of->calls[$at], $step) === 1

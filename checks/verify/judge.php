@@ -1,7 +1,7 @@
 <?php // SPDX-License-Identifier: MIT
 
 // php judge.php PROGRAM COUNT SCRIPTS..
-// Plays these scripts and so many random ones, and lets the program judge its own outputs with --verify: each is `yes`,
+// Plays these scripts and COUNT random ones, and lets the program judge its own outputs with --verify: each is `yes`,
 // and each is something else once a line of it is changed. Prints how many there were of each kind.
 
 declare(strict_types=1);
@@ -14,7 +14,7 @@ require __DIR__ . '/../../php/lines.php';
 require __DIR__ . '/scripts.php';
 require __DIR__ . '/changes.php';
 
-/** Each output is changed in so many ways; those that are seldom possible come first. */
+/** Each output is changed in this many ways; those that are seldom possible come first. */
 const CHANGES = 4;
 
 [, $program, $count] = $argv;
@@ -78,7 +78,7 @@ function judged(array $words, string $script, string $output, string $scratch): 
         : "status $status, '$message'";
 }
 
-/** Keeps the input of the last run for whoever looks. */
+/** Keeps the input of the last run for debugging. */
 function kept(string $scratch, string $text): string
 {
     rename($scratch, "$scratch.input");

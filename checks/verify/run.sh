@@ -1,10 +1,10 @@
 #!/usr/bin/env bash
 # SPDX-License-Identifier: MIT
 # The program judges its own outputs with --verify: each one is `yes`, of the examples, of the scripts of calls/, pools/
-# and bench/play and of random ones of 1 to 64 workers; and none is that has been changed in a way that leaves no legal
-# one. Then the time and memory that a verdict takes on 64 MB of scripts and their output, beside the run
+# and bench/play and of random ones of 1 to 64 workers; and none is that has been changed so that it is no longer a legal
+# one. Then the time and memory of a verdict on 64 MB of scripts and their output, compared with those of the run
 # itself.
-# Usage: checks/verify/run.sh [COUNT [PROGRAM]]; it needs php. COUNT is how many random scripts there are.
+# Usage: checks/verify/run.sh [COUNT [PROGRAM]]; it needs php. COUNT is the number of random scripts.
 set -eu
 here=$(cd "$(dirname "${BASH_SOURCE[0]}")" && pwd)
 count=${1:-1000}
@@ -23,7 +23,7 @@ for seed in 1 2 3 4; do php "$here/../pools/scripts.php" moment "$seed" 300; don
 php "$here/judge.php" "$program" "$count" "$here"/../../examples/*.apcu "$here"/../../examples/*/*.apcu \
     "$scratch"/calls.* "$scratch"/play.* "$scratch"/pools.*
 
-# Scripts of four workers that store texts of 100 bytes and fetch them, so many times each.
+# Scripts of four workers that store texts of 100 bytes and fetch them, this many times each.
 stored_and_fetched() {
     awk -v pairs="$1" 'BEGIN {
         text = sprintf("%100s", "")

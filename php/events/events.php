@@ -19,7 +19,7 @@ final class Event
     ) {
     }
 
-    /** Whether the cache is empty behind it. */
+    /** Whether the cache is empty after it. */
     public function clears(): bool
     {
         return str_starts_with($this->call, 'apcu_clear_cache');

@@ -47,24 +47,24 @@ function is_recorded(string $path): bool
     return is_dir($path) ? glob("$path/*.record") !== [] : str_ends_with($path, '.record');
 }
 
-/** The record of the server that is named, or else the one that was written last; of several a line tells the others. */
+/** The record of the server that is named, or else the one that was written last; if there are several, a line lists the others. */
 function record_of(string $path, ?string $server = null): Recorded
 {
     $records = $times = [];
     foreach (is_dir($path) ? glob("$path/*.record") : [$path] as $name) {
         [$record, $has_events] = begun($name);
-        // A server that had no calls leaves a head.
+        // A server without calls leaves only a head.
         if ($record !== null && ($has_events || !is_dir($path))) {
             $records[$record->server] = $record;
             $times[$record->server] = filemtime($name);
         }
     }
     if ($records === []) {
-        give_up("$path: there is no record of the extension");
+        give_up(is_dir($path) && !is_readable($path) ? "$path: permission denied" : "$path: no record of the extension");
     }
     arsort($times);
     $server ??= (string) array_key_first($times);
-    $record = $records[$server] ?? give_up("no record in $path is of the server $server");
+    $record = $records[$server] ?? give_up("$path: no record of the server $server");
     if (count($records) > 1) {
         tell('records of ' . count($records) . " servers or starts: this is that of $server (--server takes one of "
             . implode(', ', array_diff(array_map(strval(...), array_keys($records)), [$server])) . ')');
@@ -100,6 +100,6 @@ function replayer(?string $path): string
         }
     }
     return give_up($path === null
-        ? 'there is no program apcu_replay: build it by make -C capi apcu_replay, or name it with --replay'
-        : "$path is no program: say where apcu_replay is with --replay");
+        ? 'apcu_replay is not built: build it by make -C capi apcu_replay, or name it with --replay'
+        : "$path is not an executable: name apcu_replay with --replay");
 }

@@ -29,11 +29,11 @@ final class Stretch
     /** With what ends of workers and their lines take. */
     private int $bytes = 32 * MOST_WORKERS;
 
-    /** Adds what came in this second since the start. False where there is no room; then it was not added. */
+    /** Adds what came in this second since the start. False if there is no room; then it was not added. */
     public function add(Event $event, int $second): bool
     {
         if ($event->moment < 0 || $event->moment > LATEST_SECOND) {
-            $this->cut = "no script can say the second of event {$event->number}";
+            $this->cut = "no script can express the second of event {$event->number}";
             return false;
         }
         $worker = $this->workers[$event->process] ??= $this->worker_of(count($this->workers));
@@ -50,7 +50,7 @@ final class Stretch
         $this->moments[$worker] = $event->moment;
         $this->scripts[$worker] ??= "worker\n";
         $this->replies[$worker] ??= "worker $worker\n";
-        // Text is added in place, where no copy is made of what stands there.
+        // Text is appended in place, so that no copy is made of the existing text.
         $this->scripts[$worker] .= $call;
         $this->replies[$worker] .= $event->reply;
         $this->journal .= "$worker\n";
@@ -61,13 +61,13 @@ final class Stretch
         return true;
     }
 
-    /** Whether it has so many bytes, or as large a part of the events that the program takes. */
+    /** Whether it has this many bytes, or as large a part of the events that the program takes. */
     public function is_long(int $bytes): bool
     {
         return $this->bytes > $bytes || $this->events > $bytes / MOST_BYTES * MOST_EVENTS;
     }
 
-    /** A process has a worker of its own; where there are too many, some share one, for their order is known. */
+    /** A process has a worker of its own; if there are too many, some share one, because their order is known. */
     private function worker_of(int $process): int
     {
         return $process % MOST_WORKERS;
@@ -78,7 +78,7 @@ final class Stretch
         return implode($this->scripts);
     }
 
-    /** Each worker ends behind all events. */
+    /** Each worker ends after all events. */
     public function output(): string
     {
         $ends = implode(array_map(static fn (int $worker): string => "$worker\n", array_keys($this->scripts)));
@@ -118,7 +118,7 @@ final class Extent
 }
 
 /**
- * The stretches. Behind one that is full, the next one begins when the cache is empty again; what is between is in none.
+ * The stretches. After one that is full, the next one begins when the cache is empty again; what is between is in none.
  * One that is large enough ends when the cache is emptied, so few are ever full.
  *
  * @param iterable<Event> $events

@@ -60,7 +60,7 @@ function shown_wrong(string $replayer, Recorded $record): int
 {
     tell('apcu_run says no');
     $status = passed_on([$replayer, $record->path]);
-    return $status === WRONG ? WRONG : give_up('and apcu_replay finds no wrong reply: one of the two has a fault');
+    return $status === WRONG ? WRONG : give_up('but apcu_replay finds no wrong reply: this is an internal error, please report it');
 }
 
 /** @param list<string> $words */
@@ -95,7 +95,7 @@ function run_program(array $words, string $input): array
 {
     $ends = [];
     foreach (['input', 'output'] as $name) {
-        $ends[$name] = @tmpfile() ?: give_up(sys_get_temp_dir() . ": there is no place for the $name of a program");
+        $ends[$name] = @tmpfile() ?: give_up(sys_get_temp_dir() . ": cannot create a temporary file for the $name of a program: " . reason());
     }
     put($ends['input'], $input, sys_get_temp_dir());
     rewind($ends['input']);

@@ -4,7 +4,7 @@
 #
 #   php/ext/build.sh
 #
-# CACHE_C_LIB=FILE in the environment links a library of the engine (../../prove --library) in place of the assembly
+# CACHE_C_LIB=FILE in the environment links a library of the engine (../../prove --library) instead of the assembly
 # text of capi/engine. PHPIZE and PHP_CONFIG name those of another PHP, JOBS how many jobs make runs (2).
 set -eu
 

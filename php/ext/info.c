@@ -3,7 +3,7 @@
 
 #include "ext/standard/info.h"
 
-/* The names of what is told of a row. They stay for as long as the module does, so no call makes them. */
+/* The names of a row's fields. They live as long as the module, so no call makes them. */
 enum { INFO, HITS, NUM_HITS, ACCESS_TIME, MTIME, CREATION_TIME, DELETION_TIME, TTL, REFS, REF_COUNT, MEM_SIZE, NAMES };
 static zend_string *names[NAMES];
 
@@ -55,7 +55,7 @@ bool apcu_rows_add(apcu_rows *list, uint32_t slot)
 	uint64_t count = cache_list_rows(apcu_shm->cache, slot, 0, list->rows + list->count, list->room - list->count);
 	size_t used = list->used;
 
-	/* As many as there is room for may be not all. */
+	/* As many as there is room for may not be all. */
 	list->lacks_keys = count != list->room - list->count;
 	if (!list->lacks_keys) {
 		return false;
@@ -89,7 +89,7 @@ void apcu_rows_grow(apcu_rows *list)
 typedef struct {
 	cache_row *rows;
 	size_t count;
-	char *keys; /* by malloc: their size is known under the lock alone */
+	char *keys; /* by malloc: their size is known only under the lock */
 } all_rows;
 
 /* Under the lock, with room for all rows. False if there is no memory for their keys. */
@@ -98,7 +98,7 @@ static bool copy_all(all_rows *all, size_t room)
 	uint32_t slots = apcu_shm->shape.slots;
 	size_t size = 0;
 
-	/* Behind the slots are the rows that were removed while a process copies them. */
+	/* After the slots come the rows that were removed while a process copies them. */
 	for (uint32_t slot = 0; slot <= slots; slot++) {
 		all->count += cache_list_rows(apcu_shm->cache, slot, 0, all->rows + all->count, room - all->count);
 	}
@@ -203,7 +203,7 @@ static void add_rows(zval *info, const all_rows *all)
 	add_assoc_zval(info, "slot_distribution", &slots);
 }
 
-/* Members that APCu has not. */
+/* Members that APCu does not have. */
 static void add_state(zval *info)
 {
 	apcu_state state = apcu_shm_state();
@@ -280,7 +280,7 @@ PHP_FUNCTION(apcu_key_info)
 	ZEND_PARSE_PARAMETERS_END();
 
 	if (apcu_lock()) {
-		/* At the second 0 no row's time is over: those that no fetch finds are told of too. */
+		/* At the second 0 no row has expired: those that no fetch finds are listed too. */
 		row = cache_find_row(apcu_shm->cache, (const uint8_t *) ZSTR_VAL(key), ZSTR_LEN(key), 0);
 		apcu_unlock();
 	}
@@ -297,8 +297,8 @@ PHP_FUNCTION(apcu_key_info)
 	tell_long(return_value, REFS, 0);
 }
 
-/* All gaps at one moment. The counts tell how many words are free, so there are never more gaps than
- * these; what is taken here is far less, and grows where it must. */
+/* All gaps at one moment. The counters have the number of free words, so there are never more gaps than
+ * these; what is allocated here is far less, and grows if necessary. */
 static size_t list_gaps(cache_gap **gaps)
 {
 	size_t room = 256;

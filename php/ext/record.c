@@ -4,9 +4,9 @@
  * waits to the file, which the server opened before it forked. docs/RECORD.md and record_file.h have
  * the form of the file.
  *
- * A position in the ring counts bytes since the file's begin, so it is the place in the file too: who
- * writes a part again writes the same bytes at the same place. A process that is killed has appended a
- * whole event or none, and another one writes in the place of a writer that died. */
+ * A position in the ring counts bytes since the file's begin, so it is the place in the file too: a
+ * process that writes a part again writes the same bytes at the same place. A process that is killed has
+ * appended a whole event or none, and another one replaces a writer that died. */
 #include "record.h"
 
 #include <errno.h>
@@ -25,7 +25,7 @@
 
 #define RING_BYTES (1 << 20)
 
-/* If the ring is full and its writer writes nothing for so long, recording ends: the process that waits
+/* If the ring is full and its writer writes nothing for this long, recording ends: the process that waits
  * has the lock. */
 #define PATIENCE_NANOSECONDS 1000000000
 
@@ -58,7 +58,7 @@ static pid_t maker, process; /* of the file; this one */
 static bool is_with_values;
 static uint64_t most; /* bytes of the file */
 
-/* Of this process: up to where it has to write, since it has the mark; 0: it has not. */
+/* Of this process: the position up to which it has to write, because it has the mark; 0: it has not. */
 static uint64_t due;
 static const char *message;
 static char fault[4400];
@@ -139,7 +139,7 @@ static bool make_room(uint64_t position)
 	return all->state != FAILED && write_up_to(position);
 }
 
-/* How many of these bytes have room in one piece behind a position, of which there is at least one. 0:
+/* How many of these bytes fit in one piece after a position that has room for at least one. 0:
  * recording has failed. */
 static size_t room_for(uint64_t position, size_t len)
 {
@@ -400,8 +400,8 @@ static void note_child(void)
 	}
 }
 
-/* Null, or why no file is made in the folder: a user besides root and the server's own could put another
- * file in the place of one that is written. */
+/* Null, or why no file is made in the folder: a user other than root and the server's own could replace
+ * a file that is being written. */
 static const char *fault_of_folder(void)
 {
 	struct stat is;
@@ -418,7 +418,7 @@ static const char *fault_of_folder(void)
 	return NULL;
 }
 
-/* Makes the folder, unless it is there, and a file in it for its owner alone: null, or why it can't. */
+/* Makes the folder, unless it exists, and a file in it for its owner only: null, or why it can't. */
 static const char *make_file(const char *folder, uint64_t server)
 {
 	mode_t before = umask(0);

@@ -13,18 +13,18 @@
 apcu_shared *apcu_shm;
 bool apcu_has_hash_of_php;
 
-/* Where the library's memory comes from: while a cache is made, out of the mapping; while a shape is
- * judged, there is none; else it is malloc's. Written under the lock alone, or before there is a
+/* The source of the library's memory: while a cache is made, the mapping; while a shape is
+ * checked, nothing; otherwise malloc. Written only under the lock, or before there is a
  * second process. */
 static enum { FROM_MALLOC, FROM_MAPPING, FROM_NOWHERE } source;
 
-/* A message for the log about the cache that took the place of another one, or null. */
+/* A message for the log about the cache that replaced another one, or null. */
 static const char *remade_message;
 
 /* Something waits until the lock is released: events to be written, or that message. */
 static bool has_news;
 
-/* What the library gets when it asks for memory. */
+/* What the library gets when it allocates memory. */
 static cache_tried given(void *at)
 {
 	static char nothing;
@@ -97,7 +97,7 @@ int rattle_errno(void)
 	return 0;
 }
 
-/* Makes an empty cache. What a cache before it left in the memory is not read. */
+/* Makes an empty cache. What an earlier cache left in the memory is not read. */
 static void make(void)
 {
 	apcu_shm->is_made = false;
@@ -161,8 +161,8 @@ bool apcu_shm_start(const cache_shape *shape, bool is_dumped, size_t *bytes)
 	size_t page = (size_t) sysconf(_SC_PAGESIZE);
 	size_t size = (size_t) shape->words * 8;
 
-	/* Beside its words a cache has an index of some four bytes for each four of them. What is too much is
-	 * given back below. */
+	/* Besides its words a cache has an index of some four bytes for each four of them. What is too much is
+	 * freed below. */
 	size += size / 6 + 64 * 1024;
 	size = (size + page - 1) / page * page;
 	*bytes = size;
@@ -207,8 +207,8 @@ void apcu_shm_stop(void)
 	}
 }
 
-/* As HANDLE_UNBLOCK_INTERRUPTIONS. That one takes the first signal that waits for granted, where
- * another one that comes just then may have let all go already. */
+/* As HANDLE_UNBLOCK_INTERRUPTIONS. That macro assumes that the first waiting signal is still there, but
+ * another one that arrives just then may have handled all of them. */
 static void let_signals(void)
 {
 #ifdef ZEND_SIGNALS
@@ -225,7 +225,7 @@ static void let_signals(void)
 #endif
 }
 
-/* A process that is killed has written what stands before the instruction at which it died, so the
+/* A process that is killed has done all writes before the instruction at which it died, so the
  * order that the compiler keeps is enough. */
 static void set_busy(bool is_busy)
 {
@@ -234,9 +234,9 @@ static void set_busy(bool is_busy)
 	atomic_signal_fence(memory_order_seq_cst);
 }
 
-/* Its last owner died. Where a call was under way, what it left may be half a change, and nothing of
- * it is read again: a new cache takes its place. Whoever dies here leaves is_busy as it is, and the
- * next owner begins anew. */
+/* Its last owner died. If a call was in progress, what it left may be half a change, and is not
+ * read again: a new cache replaces it. A process that dies here leaves is_busy as it is, and the
+ * next owner begins again. */
 static void recover(void)
 {
 	if (apcu_shm->is_busy) {
@@ -330,7 +330,7 @@ static bool may_drop_rows(uint32_t kind)
 	return kind != CACHE_LOOK && kind != CACHE_HOLD && kind != CACHE_EXISTS;
 }
 
-/* An expunge begins the counts of hits, misses and inserts anew, and so the time that they are of. */
+/* An expunge sets the counters of hits, misses and inserts to 0, and so begins their time again. */
 static void note_expunges(void)
 {
 	uint64_t expunges = cache_get_counts(apcu_shm->cache).expunges;
@@ -344,7 +344,7 @@ static void note_expunges(void)
 
 cache_answer apcu_ask(const cache_request *request, const zend_string *key, const char *bytes, size_t len)
 {
-	/* A process that is killed in a call that changes nothing leaves the cache whole. */
+	/* A process that is killed in a call that changes nothing leaves the cache valid. */
 	set_busy(request->kind != CACHE_EXISTS);
 	if (UNEXPECTED(apcu_shm->seats.taken != 0) && may_drop_rows(request->kind)) {
 		seats_sweep(&apcu_shm->seats, apcu_shm->cache);
@@ -397,7 +397,7 @@ apcu_kept *apcu_read_kept(zend_string *key, const struct cache_found *found)
 	if (EXPECTED(APCU_G(kept_size) <= 0) || found->kind != CACHE_STR || !apcu_may_have_stamp(found->len)) {
 		return NULL;
 	}
-	/* Other processes may read too, so no call has the handle. */
+	/* Other processes may read at the same time, so no call gets the handle. */
 	memcpy(tail, apcu_shm->words + found->place + found->len / 8 - 1, sizeof tail);
 	return apcu_kept_find(key, tail);
 }

@@ -61,7 +61,7 @@ final class Calls
         };
     }
 
-    /** The lines of a store with so many arguments. */
+    /** The lines of a store with this many arguments. */
     public static function store(string $word, int $count, mixed $key, mixed $value, mixed $ttl): string
     {
         self::$parts = null;

@@ -5,8 +5,8 @@ declare(strict_types=1);
 namespace ApcuRecord;
 
 /**
- * An entry's line comes behind the call, with the value that it gave for a generator: whether the row was there or not,
- * the script's reply is that value, with other settings too. Calls that the generator made stand before the line.
+ * An entry's line comes after the call, with its result as the generator's value: whether the row was there or not,
+ * the script's reply is that value, with other settings too. Calls that the generator made come before the line.
  */
 final class Entries
 {

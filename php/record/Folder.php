@@ -4,10 +4,10 @@ declare(strict_types=1);
 
 namespace ApcuRecord;
 
-/** Where the files of this machine's processes go. */
+/** The folder for the files of this machine's processes. */
 final class Folder
 {
-    /** The path of a process's files, without their endings. The folder is made where there is none. */
+    /** The path of a process's files, without their endings. The folder is made if there is none. */
     public static function path(int $process): string
     {
         $folder = \getenv('APCU_RECORD_DIR');

@@ -7,8 +7,8 @@ namespace ApcuRecord;
 require __DIR__ . '/Pattern.php';
 
 /**
- * PHP does not tell where a loop goes over an iterator. So a walk stands where its iterator is made, unless the next
- * call deletes by it or asks it for a total.
+ * PHP does not report when a loop runs over an iterator. So a walk is recorded where its iterator is made, unless the
+ * next call deletes by it or asks it for a total.
  */
 final class Iterators
 {
@@ -18,7 +18,7 @@ final class Iterators
         'mem_size' => APC_ITER_MEM_SIZE, 'ttl' => APC_ITER_TTL,
     ];
 
-    /** @var \WeakMap<\APCUIterator, array>|null what each iterator was made with, and whether it told its totals */
+    /** @var \WeakMap<\APCUIterator, array>|null what each iterator was made with, and whether its totals were read */
     private static ?\WeakMap $all = null;
 
     public static function made(\APCUIterator $iterator, array $args): void

@@ -13,7 +13,7 @@ final class Pattern
     private const CLASS_SIGN = '\\\\[^A-Za-z0-9\s]|[A-Za-z0-9 _:;,=!<>@%"\'`\~&#\/.$*+?(){}|]';
     private const COUNT = '\{[0-9]{1,2}(?:,[0-9]{0,2})?\}(?![?+*])';
 
-    /** Null where there is no such pattern, or where it is not sure to mean the same. */
+    /** Null if there is no such pattern, or if it may have another meaning. */
     public static function of(mixed $search): ?string
     {
         if ($search === null || $search === '') {

@@ -4,7 +4,7 @@ declare(strict_types=1);
 
 namespace ApcuRecord;
 
-/** The script of this process: lines in a buffer, and behind it a file that no other process writes. */
+/** The script of this process: lines in a buffer, and then a file that no other process writes. */
 final class Script
 {
     /** A file that has as many is not written on: apcu_run takes 67,108,864 at most. */
@@ -21,7 +21,7 @@ final class Script
     private static int $second_before = 0;
     private static int $request = 0;
     private static string $replies = '';
-    /** @var array<string, int> how many calls were left out, and for how many values a string stands, by kind */
+    /** @var array<string, int> how many calls were left out, and how many values a string replaces, by kind */
     private static array $left = [];
     /** The recorder itself asks APCu. */
     private static bool $is_asking = false;
@@ -48,7 +48,7 @@ final class Script
         }
     }
 
-    /** Appends the lines of a call, which end with line feeds; none where it was left out. */
+    /** Appends the lines of a call, which end with line feeds; none if it was left out. */
     public static function call(string $lines, ?int $now = null): void
     {
         if ($lines === '' || self::$is_asking) {
@@ -76,7 +76,7 @@ final class Script
         self::$buffer .= "time i:$second;\n";
     }
 
-    /** Takes back the line of the last call, and its reply where replies are told, if it is not written yet. */
+    /** Removes the line of the last call, and its reply if replies are recorded, unless it is written already. */
     public static function take_back(string $line, string $reply): void
     {
         if (\str_ends_with(self::$buffer, $line) && \str_ends_with(self::$replies, $reply)) {
@@ -91,7 +91,7 @@ final class Script
         self::$replies .= self::$is_asking ? '' : $lines;
     }
 
-    /** Counts a call that a script can't say, or a value for which a string stands; keys are told beside the replies. */
+    /** Counts a call that a script can't express, or a value that a string replaces; keys are written with the replies. */
     public static function left(string $kind, mixed $keys = null, bool $has_stand_in = false): void
     {
         $how = $has_stand_in ? 'stands' : 'left';
@@ -171,7 +171,7 @@ final class Script
             self::append('site', self::setting());
             self::$buffer = "worker\n" . self::start() . self::$buffer;
         } elseif (self::$size > self::MOST) {
-            // It was told when the file became full.
+            // It was reported when the file became full.
             self::$is_off = true;
         } else {
             self::$buffer = self::start() . self::$buffer;
@@ -203,7 +203,7 @@ final class Script
         return 'request i:' . self::$request . ";\n$later";
     }
 
-    /** Appends to the script. Where not all bytes find room, none of them stay, so that it ends with a whole line. */
+    /** Appends to the script. If there is no room for all bytes, none of them is kept, so that it ends with a whole line. */
     private static function write(string $lines): void
     {
         $written = \fwrite(self::$file, $lines);

@@ -4,21 +4,21 @@ declare(strict_types=1);
 
 namespace ApcuRecord;
 
-/** Values as a script says them: as `serialize` writes them. For one that it can't say stands a string as long. */
+/** Values as a script expresses them, as `serialize` writes them; a string of the same length replaces one that it can't. */
 final class Text
 {
-    /** A value that begins in so many arrays and objects can't be said. */
+    /** A value inside this many arrays and objects can't be expressed. */
     private const DEPTH = 512;
     /** More members than these in one value are not looked through. */
     private const MEMBERS = 1_000_000;
-    /** A longer text is copied only where there is memory for it. */
+    /** A longer text is copied only if there is memory for it. */
     private const SHORT = 1_000_000;
     /** How a string begins that may spell a number; what may be a part that is shared. */
     private const NUMBER = '/:"[0-9-]/';
     private const SHARED = '/[rR]:[0-9]/';
     /** APCu keeps a double as it keeps an integer, in eight bytes. */
     private const DOUBLE = 8;
-    /** Of these no string stands there: APCu stores none of the first, and the second would take too long. */
+    /** No string replaces these: APCu stores none of the first, and the second would take too long. */
     private const LEFT = ['unserializable' => true, 'members' => true];
 
     /** Why a script can't say the last value; nothing where it can. */
@@ -137,7 +137,7 @@ final class Text
         return isset(self::LEFT[self::$why]) ? null : self::stand_in($length);
     }
 
-    /** A string of so many bytes, which are the site's in nothing else. */
+    /** A string of this many bytes, which contains nothing of the site's. */
     private static function stand_in(int $length): ?string
     {
         if ($length > self::SHORT && !self::has_memory($length)) {
@@ -206,7 +206,7 @@ final class Text
         return false;
     }
 
-    /** Whether a text of so many bytes may be copied some times, and the site still has room. */
+    /** Whether a text of this many bytes may be copied several times, and the site still has enough memory. */
     private static function has_memory(int $bytes): bool
     {
         $set = \strtoupper((string) \ini_get('memory_limit'));
@@ -214,7 +214,7 @@ final class Text
         return $limit <= 0 || \memory_get_usage() + 5 * $bytes < $limit;
     }
 
-    /** Why a value in so many arrays and objects can't be said, or nothing. */
+    /** Why a value in this many arrays and objects can't be expressed, or nothing. */
     private static function refused(mixed $value, int $depth): string
     {
         return match (\gettype($value)) {

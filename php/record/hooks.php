@@ -7,7 +7,7 @@ declare(strict_types=1);
 
 namespace ApcuRecord;
 
-// The two calls that a site makes most. With uopz each call of a function and each constant is looked up anew, so there
+// The two calls that a site makes most. With uopz each call of a function and each constant is looked up again, so there
 // are few.
 \uopz_set_hook('apcu_fetch', static function (mixed $key = null): void {
     try {

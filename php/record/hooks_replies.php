@@ -1,8 +1,8 @@
 <?php // SPDX-License-Identifier: MIT
 
-// For tests: beside each line of the script, what APCu answered, as apcu_run prints it. Each call is made from here, so
-// a wrong call of a site with strict types may be taken, and a call inside another one of its name is not seen.
-// No strict types: they would turn back what a site without them may hand over.
+// For tests: next to each line of the script, the reply of APCu, as apcu_run prints it. Each call is made from here, so
+// a wrong call of a site with strict types may be accepted, and a call inside another one of its name is not seen.
+// No strict types: they would reject what a site without them may pass.
 
 namespace ApcuRecord;
 

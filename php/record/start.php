@@ -13,7 +13,7 @@ require __DIR__ . '/Calls.php';
 require __DIR__ . '/Iterators.php';
 require __DIR__ . '/Entries.php';
 
-// As it comes, uopz makes PHP go on behind `exit`.
+// By default uopz makes PHP continue after `exit`.
 \uopz_allow_exit(true);
 Script::begin();
 if (Script::$tells_replies) {

@@ -15,7 +15,7 @@ const MAP_WORDS = [
     'slots' => 'hash chains', 'row' => 'rows', 'mixed' => 'rows and gaps', 'removed' => 'removed rows', 'free' => 'free',
 ];
 
-/** Goes on in an output to behind its line `map`; whether there is one. */
+/** Advances in an output to after its line `map`; whether there is one. */
 function reaches_map(\Generator $lines): bool
 {
     for (; $lines->valid(); $lines->next()) {
@@ -28,8 +28,8 @@ function reaches_map(\Generator $lines): bool
 }
 
 /**
- * What a map tells, from the line behind `map` on: its blocks and free runs as cells of a picture, and the largest free
- * run in words. The hash chains stand before the first block or free run.
+ * The content of a map, from the line after `map` on: its blocks and free runs as cells of a picture, and the largest
+ * free run in words. The hash chains come before the first block or free run.
  *
  * @return array{Cells, int}
  */
@@ -51,7 +51,7 @@ function map_of(\Generator $lines): array
     return [$cells, $largest];
 }
 
-/** The words of a cache as cells of one size. The size grows with the map, so there are never more than so many. */
+/** The words of a cache as cells of one size. The size grows with the map, so the number of cells is limited. */
 final class Cells
 {
     private const MOST = MAP_ROWS * MAP_WIDTH;

@@ -13,11 +13,11 @@ const COLUMNS = [
 /** It changes nothing and counts nothing. */
 const QUESTION = "apcu_cache_info b:1;\n";
 
-/** The input that join.php --one makes of a folder; what it tells goes on to whoever called this. */
+/** The input that join.php --one makes of a folder; its messages are passed on. */
 function joined(string $folder): string
 {
     $input = @tempnam(sys_get_temp_dir(), 'apcu');
-    $input !== false || give_up(sys_get_temp_dir() . ': there is no place for an input');
+    $input !== false || give_up(sys_get_temp_dir() . ': cannot create a temporary file: ' . reason());
     register_shutdown_function(static fn () => unlink($input));
     $words = [PHP_BINARY, dirname(__DIR__) . '/join.php', '--one', $folder];
     $process = @proc_open($words, [1 => opened($input, 'wb')], $pipes);
@@ -35,7 +35,7 @@ function with_questions(string $path): string
 {
     $from = opened($path);
     $copy = @tempnam(sys_get_temp_dir(), 'apcu');
-    $copy !== false || give_up(sys_get_temp_dir() . ': there is no place for a copy of the input');
+    $copy !== false || give_up(sys_get_temp_dir() . ': cannot create a temporary file: ' . reason());
     register_shutdown_function(static fn () => unlink($copy));
     $out = opened($copy, 'wb');
     $text = '';
@@ -67,7 +67,7 @@ function with_questions(string $path): string
  */
 function run_for(string $setting, array $first, array $last, string $input = '/dev/null'): array
 {
-    $output = @tmpfile() ?: give_up(sys_get_temp_dir() . ': there is no place for an output');
+    $output = @tmpfile() ?: give_up(sys_get_temp_dir() . ': cannot create a temporary file: ' . reason());
     $words = preg_split('/ +/', $setting, -1, PREG_SPLIT_NO_EMPTY);
     $process = @proc_open([...$first, ...$words, ...$last], [opened($input), $output, ['pipe', 'w']], $pipes);
     if ($process === false) {
@@ -108,8 +108,8 @@ function replayed($output): array
 }
 
 /**
- * What the replies tell: hits and stores in all of the play, for the cache's own counts begin anew at each expunge; and
- * the cache's shape and words at the end.
+ * What the replies contain: hits and stores in all of the play, because the cache's own counters begin at 0 again at each
+ * expunge; and the cache's shape and words at the end.
  *
  * @param resource $output
  * @return array{array<string, int|float>, Cells} the row of a setting, and its map
@@ -154,14 +154,14 @@ function count_call(array &$sums, string $word, string $line, string $reply, str
     } elseif ($word === 'apcu_store' || $word === 'apcu_add') {
         $stored = $many === null ? (int) ($reply === "b:1;\n") : $many - members_of($reply);
         $sums['inserts'] += $stored;
-        // Where a row is there, apcu_add stores nothing either.
+        // If there is a row, apcu_add stores nothing either.
         $sums['refused'] += $word === 'apcu_store' ? ($many ?? 1) - $stored : 0;
     }
 }
 
 /**
- * Of the last replies of each worker, the one that came last: behind it there is no call but questions and ends. The
- * last event of a worker is its end, and the one before it is its question. The journal is read up to the map.
+ * Of the last replies of each worker, the one that came last: after it there are no calls except information calls and
+ * ends. The last event of a worker is its end, and the one before it is its question. The journal is read up to the map.
  */
 function last_of(array $ends, \Generator $journal): array
 {

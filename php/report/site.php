@@ -1,6 +1,6 @@
 <?php // SPDX-License-Identifier: MIT
 
-// What a folder of a recorder tells beside the calls: the site's own setting, what its APCu counted, what was left out.
+// What a recorder's folder has besides the calls: the site's own setting, the counters of its APCu, what was left out.
 
 declare(strict_types=1);
 
@@ -91,8 +91,8 @@ function options_of(Shape $shape, bool $by_request): array
 }
 
 /**
- * What APCu counted, by its counts at the ends of requests. They begin anew where all rows went, so what was counted
- * between the last of these ends and that is missing. Of two ends at once either may be told first.
+ * The counters of APCu at the ends of requests. They begin at 0 again when all rows are dropped, so what was counted
+ * between the last of these ends and that is missing. Of two ends at once either may come first.
  *
  * @param list<list<string>> $lines
  * @return array<string, int|float|null>|null
@@ -103,7 +103,7 @@ function counted_by_apcu(array $lines): ?array
         return null;
     }
     usort($lines, static fn (array $one, array $other): int => (int) $one[0] <=> (int) $other[0]);
-    // By how often rows went for want of room, since the cache was cleared; each time that it was is a list of its own.
+    // By how often rows were dropped to make room, since the cache was cleared; each clearing begins a list of its own.
     $times = [[]];
     foreach ($lines as [, $hits, $misses, $inserts, $expunges, $entries, $used]) {
         $now = [(int) $hits, (int) $misses, (int) $inserts];
@@ -125,7 +125,7 @@ function counted_by_apcu(array $lines): ?array
 }
 
 /**
- * What the recorder left out of scripts, and for how many values a string stands.
+ * What the recorder left out of scripts, and how many values a string replaces.
  *
  * @param list<string> $paths
  * @return array{left: array<string, int>, stands: array<string, int>}

@@ -1,7 +1,7 @@
 <?php // SPDX-License-Identifier: MIT
 
-// Misses in a hundred fetches since all rows last went, by a call or for want of room, how often rows were dropped for
-// want of room, and how many rows there are. With `?clear` it clears first.
+// Misses in a hundred fetches since all rows last went, by a call or to make room, how often rows were dropped to
+// make room, and how many rows there are. With `?clear` it clears first.
 
 declare(strict_types=1);
 

@@ -1,7 +1,7 @@
 <?php // SPDX-License-Identifier: MIT
 
-// What hours.php asks workers for: `?key=K` gives the value under a key, `?key=K&number=N` stores one that tells
-// both, and `?anew` says how often the cache was made anew after a kill.
+// The replies of workers to hours.php: `?key=K` returns the value under a key, `?key=K&number=N` stores one that contains
+// both, and `?anew` returns how often the cache was recreated after a kill.
 
 declare(strict_types=1);
 
@@ -13,7 +13,7 @@ function value_of_number(string $key, int $number): array|string
     return $number % 3 === 0 ? ['key' => $key, 'number' => $number, 'text' => $text] : $text;
 }
 
-/** The number that the text of a reply tells, where it is a whole value of this key; else null. */
+/** The number in the text of a reply, if it is a whole value of this key; otherwise null. */
 function number_in(string $key, string $reply): ?int
 {
     $value = @unserialize($reply, ['allowed_classes' => false]);
@@ -26,7 +26,7 @@ if (basename($_SERVER['SCRIPT_FILENAME']) !== basename(__FILE__)) {
 }
 header('Content-Type: text/plain');
 
-/** How often the cache was made anew after a kill, and how often rows were dropped for want of room. */
+/** How often the cache was recreated after a kill, and how often rows were dropped to make room. */
 function drops(): string
 {
     ob_start();
@@ -40,7 +40,7 @@ if (isset($_GET['anew'])) {
 }
 $key = (string) $_GET['key'];
 if (isset($_GET['number'])) {
-    // What is dropped from here on is counted behind this.
+    // What is dropped from here on is counted after this.
     $drops = drops();
     $number = (int) $_GET['number'];
     exit(apcu_store($key, value_of_number($key, $number)) ? "stored $drops" : 'full');

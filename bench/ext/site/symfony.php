@@ -1,6 +1,6 @@
 <?php // SPDX-License-Identifier: MIT
 
-// A page whose parts are kept by Symfony's cache over APCu: settings and a product, each made where it is not there.
+// A page whose parts are kept by Symfony's cache over APCu: settings and a product, each made if it does not exist.
 
 declare(strict_types=1);
 

@@ -1,6 +1,6 @@
 <?php // SPDX-License-Identifier: MIT
 
-// What the suites stand on, from Debian's packages.
+// What the suites depend on, from Debian's packages.
 
 declare(strict_types=1);
 

@@ -1,9 +1,9 @@
 #!/usr/bin/env bash
 # SPDX-License-Identifier: MIT
 # APCu's own tests over PHP's APCu and over this extension, both in one harness: PHP's run-tests.php, with no settings
-# but the extension. They come from Debian's source package when this is run; SOURCE=FOLDER in the environment is such
-# a source that is there. Each test is told that one of both doesn't pass, and a test that APCu passes alone is a
-# failure. The servers that some tests start find the extension in the folder beside the tests.
+# except the extension. They come from Debian's source package when this is run; SOURCE=FOLDER in the environment is an
+# existing copy of it. Each test that one of both does not pass is printed, and a test that only APCu passes is a
+# failure. The servers that some tests start find the extension in the folder next to the tests.
 # Usage: php/ext/checks/apcu-tests.sh [SO]; it needs php-dev and php-apcu.
 set -eu
 here=$(cd "$(dirname "${BASH_SOURCE[0]}")" && pwd)

@@ -1,6 +1,6 @@
 /* SPDX-License-Identifier: MIT */
-/* A clock that stands: loaded before a program (LD_PRELOAD), it answers each question for the time with the seconds
- * that stand in the file CLOCK_FILE, eight bytes, least first. So rows grow old when a script writes that file, and two
+/* A clock that does not advance: loaded before a program (LD_PRELOAD), it returns as the time the seconds
+ * in the file CLOCK_FILE, eight bytes, lowest first. So rows age when a script writes that file, and two
  * runs meet the same moments. Without the file the clock is the system's. For checks only. */
 #define _GNU_SOURCE
 #include <dlfcn.h>

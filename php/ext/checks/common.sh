@@ -1,7 +1,7 @@
 # SPDX-License-Identifier: MIT
-# What the scripts of this folder share. A script sets `here`, its folder, before it reads this file. The extension that
-# is looked at is the first argument of each, or APCU_SO in the environment, or what ../build.sh left; APCU_BASE is
-# PHP's APCu beside it, or else the one that PHP loads.
+# What the scripts of this folder share. A script sets `here`, its folder, before it reads this file. The extension
+# under test is the first argument of each, or APCU_SO in the environment, or what ../build.sh left; APCU_BASE is
+# PHP's APCu to compare with, by default the one that PHP loads.
 ours=$(realpath -- "${1:-${APCU_SO:-$here/../modules/apcu.so}}")
 base=$(realpath -- "${APCU_BASE:-$(php-config --extension-dir)/apcu.so}")
 scratch=$(mktemp -d)
@@ -19,9 +19,9 @@ trap clean_up EXIT
 for file in "$ours" "$base"; do
     [ -f "$file" ] || { echo "no extension: $file" >&2; exit 1; }
 done
-if cmp -s "$ours" "$base"; then echo "This is PHP's APCu beside itself."; fi
+if cmp -s "$ours" "$base"; then echo "This is PHP's APCu compared with itself."; fi
 
-# Makes the folder of settings that PHP reads for an extension in place of its APCu, and prints its name; for a
+# Makes the folder of settings that PHP reads for an extension instead of its APCu, and prints its name; for a
 # program of PHP's: cli or fpm.
 settings_of() {
     local so=$1 sapi=${2:-cli} folder file

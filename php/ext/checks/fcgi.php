@@ -1,9 +1,9 @@
 <?php // SPDX-License-Identifier: MIT
 
-// A small client of FastCGI over a local socket: asks a script, so many times in so many processes.
+// A small client of FastCGI over a local socket: requests a script COUNT times in each of PROCESSES processes.
 // php fcgi.php SOCKET SCRIPT COUNT PROCESSES [QUERY]
 // prints how many answers were good (their text begins with ok), lost (the worker was killed), and late (none within
-// twenty seconds); other answers are printed. Its status is 1 where there is such one, and 2 where one was late.
+// twenty seconds); other answers are printed. Its status is 1 if there is such one, and 2 if one was late.
 
 declare(strict_types=1);
 

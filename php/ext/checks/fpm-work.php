@@ -1,7 +1,7 @@
 <?php // SPDX-License-Identifier: MIT
 
-// What a worker of php-fpm is asked for: some five hundred calls (work.php), and whether all of them were answered well.
-// With `?anew` it says how often the cache was made anew.
+// The work of a worker of php-fpm: some five hundred calls (work.php), and whether all of them had good replies.
+// With `?anew` it returns how often the cache was recreated.
 
 declare(strict_types=1);
 

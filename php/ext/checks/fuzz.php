@@ -3,19 +3,19 @@
 // Random calls of PHP: php fuzz.php moment|times|four SEED COUNT
 // prints a digest of each thousand answers, so that two extensions can be compared; with TRACE=1 in the environment
 // each answer is a line. An answer is what the call gave or threw, its warnings, and which hooks of objects it ran.
-// `moment`: time stands. `times`: it moves between calls. `four`: four processes take turns, one at a time, and one in
-// a hundred turns ends a process, whose place a new one takes; over odd seeds time moves. Time is the file CLOCK_FILE.
+// `moment`: time does not advance. `times`: it moves between calls. `four`: four processes take turns, one at a time, and
+// one in a hundred turns ends a process, which a new one replaces; over odd seeds time moves. Time is the file CLOCK_FILE.
 //
 // Left out is what docs/DIFFERENCES.md lets differ (its numbers):
 //  6       a ttl is from 0 to 2,147,483,647;
-//  11, 12  where time moves, no two keys share a slot;
-//  13 - 18 the cache is never full, and no size of a row or of memory is told;
-//  25, 45  rows are told by rising key, and none is changed during a walk that can still come to it;
+//  11, 12  if time moves, no two keys share a slot;
+//  13 - 18 the cache is never full, and no size of a row or of memory is printed;
+//  25, 45  rows are printed by rising key, and none is changed during a walk that can still reach it;
 //  30      no list names a key twice;
-//  35      where time moves, a row that was ever asked to be swapped has no moment of its last change;
-//  46, 49  of the segments only their number and the names and types of fields are told;
-//  and how many slots there are, when the server was started and how many copy from a row. So is what docs/EXTENSION.md
-//  lets differ of a value that can't be read: none has an object with a destructor beside it.
+//  35      if time moves, a row that a call ever tried to swap has no moment of its last change;
+//  46, 49  of the segments only their number and the names and types of fields are printed;
+//  and the number of slots, when the server was started and how many copy from a row. So is what docs/EXTENSION.md
+//  lets differ of a value that can't be read: none has an object with a destructor next to it.
 
 declare(strict_types=1);
 
@@ -341,7 +341,7 @@ final class Calls
         return $rows;
     }
 
-    /** Rows as they are told, without what may differ. */
+    /** Rows as they are printed, without what may differ. */
     private function row(array $row): array
     {
         foreach (['mem_size', 'ref_count', 'refs'] as $name) {
@@ -633,7 +633,7 @@ final class Digest
     }
 }
 
-/** A process of its own: the other end of what it is told and answers, and its number. */
+/** A process of its own: the other end of its pipe, and its number. */
 function start_one(string $how, int $seed, array $others): array
 {
     [$own, $its] = stream_socket_pair(STREAM_PF_UNIX, STREAM_SOCK_STREAM, STREAM_IPPROTO_IP);

@@ -1,11 +1,11 @@
 #!/usr/bin/env bash
 # SPDX-License-Identifier: MIT
-# A million random calls of one process, and a million of four that take turns, are answered by an extension as by
-# PHP's APCu: what a call gives or throws, its warnings and the hooks of objects it runs. Of the first, half are of a
-# moment, under each serializer, and over half time moves, with apc.ttl and without. Time is a file (clock.c), so that
-# both meet the same moments. fuzz.php says what is left out.
+# A million random calls of one process, and a million of four that take turns, have the same replies from an extension as
+# from PHP's APCu: what a call returns or throws, its warnings and the hooks of objects it runs. Of the first, half are of
+# one moment, under each serializer, and during the other half time moves, with apc.ttl and without. Time is a file
+# (clock.c), so that both have the same moments. fuzz.php says what is left out.
 # Usage: php/ext/checks/fuzz.sh [SO]; it needs php-apcu, cc, and php-igbinary for one of the serializers. ROUNDS=N in
-# the environment plays so many times 100,000 calls of each (10), and FIRST=N begins at another seed.
+# the environment plays N times 100,000 calls of each (10), and FIRST=N begins at another seed.
 set -eu
 here=$(cd "$(dirname "${BASH_SOURCE[0]}")" && pwd)
 . "$here/common.sh"
@@ -32,7 +32,7 @@ play() {
     rm -f "$clock"
 }
 
-# Plays a seed over both, one beside the other, and tells the first answer that differs.
+# Plays a seed over both, and prints the first answer that differs.
 compare() {
     local how=$1 seed=$2 of="$scratch/$1.$2"
     play "$base" "$@" >"$of.base" &

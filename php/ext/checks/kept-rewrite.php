@@ -7,7 +7,7 @@
 
 declare(strict_types=1);
 
-/** The index behind the bracket that belongs to the one at this index. */
+/** The index after the bracket that belongs to the one at this index. */
 function behind(array $tokens, int $at): int
 {
     $depth = 0;

@@ -1,10 +1,10 @@
 <?php // SPDX-License-Identifier: MIT
 
-// Four processes call the cache, and so many times one of them is killed at any moment and another one takes its
-// place. After each kill a process that is never killed has to be answered, within twenty seconds; no value may be
-// another's or half written; at the end all have to come to an end by themselves.
-// php kills.php KILLS [reads]; its status is 0, 1 where a value was wrong and 2 where a process stood still. With `reads`
-// those that are killed only fetch and ask whether keys exist: then no row may be missing at any time.
+// Four processes call the cache, and KILLS times one of them is killed at any moment and another one replaces
+// it. After each kill a process that is never killed has to get a reply within twenty seconds; no value may be
+// another's or half written; at the end all have to end by themselves.
+// php kills.php KILLS [reads]; its status is 0, 1 if a value was wrong and 2 if a process hung. With `reads`
+// those that are killed only fetch and test whether keys exist: then no row may be missing at any time.
 
 declare(strict_types=1);
 
@@ -97,7 +97,7 @@ function is_running(int $id): bool
     return (bool) preg_match('/\) [RD] /', (string) @file_get_contents("/proc/$id/stat"));
 }
 
-/** Whether something comes within the time. Where the machine has much else to do it is longer: as long as one runs. */
+/** Whether something comes within the time. If the machine has much else to do it is longer: as long as one runs. */
 function is_answered($stream, array $all): bool
 {
     for ($i = 0; $i < 10; $i++) {
@@ -136,7 +136,7 @@ for ($kills = 1; $kills <= $wanted; $kills++) {
     unset($all[$at]);
     fwrite($all['asked']['stream'], "$kills\n");
     if (!is_answered($all['asked']['stream'], $all)) {
-        printf("after %d kills nobody was answered for %d seconds\n", $kills, PATIENCE);
+        printf("after %d kills no process got a reply for %d seconds\n", $kills, PATIENCE);
         stop_all($all);
         exit(2);
     }

@@ -1,7 +1,7 @@
 <?php // SPDX-License-Identifier: MIT
 
-// Asks a server that runs APCu's status page, as it is, for each of its views, and judges them: the status, that PHP
-// told of nothing, and that each view shows what it is for.
+// Requests each view of APCu's unchanged status page from a server that runs it, and judges it: the status, that PHP
+// reported nothing, and that each view shows what it is for.
 // php page.php ADDRESS FILE; FILE gets the views' texts without numbers and marks, for another extension to be compared.
 
 declare(strict_types=1);
@@ -9,7 +9,7 @@ declare(strict_types=1);
 [, $address, $file] = $argv;
 [$views, $wrong, $skeleton] = [0, 0, ''];
 
-/** A view's text; what has to stand in it, and what may not. */
+/** A view's text; what it has to contain, and what it may not. */
 function view(string $name, string $query, array $has = [], array $lacks = []): string
 {
     global $address, $views, $wrong, $skeleton;

@@ -1,8 +1,8 @@
 #!/usr/bin/env bash
 # SPDX-License-Identifier: MIT
-# APCu's own status page, apc.php of Debian's source package, runs over an extension as it is: each of its views is
-# asked for and judged (page.php), and its text, but for numbers, is what it is over PHP's APCu. SOURCE=FOLDER in the
-# environment is such a source that is there; SHOTS=FOLDER takes pictures with Chromium, for somebody to look at.
+# APCu's own status page, apc.php of Debian's source package, runs unchanged over an extension: each of its views is
+# requested and judged (page.php), and its text, except for numbers, is the same with PHP's APCu. SOURCE=FOLDER in the
+# environment is an existing copy of the source; SHOTS=FOLDER takes pictures with Chromium, for a person to look at.
 # Usage: php/ext/checks/page.sh [SO]; it needs php-apcu, and php-gd for the page's pictures.
 set -eu
 here=$(cd "$(dirname "${BASH_SOURCE[0]}")" && pwd)

@@ -77,7 +77,7 @@ function next_counted(array $events, int $at): int
 }
 
 /**
- * The places of a call that counts and of the next one on the same key, from another number, the nearest behind a place.
+ * The places of a call that counts and of the next one on the same key, from another number, the nearest after a place.
  * Those that are next to one another have no call between that makes up for the first.
  */
 function two_counted(array $events, int $at, bool $is_next): array

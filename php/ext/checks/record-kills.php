@@ -34,7 +34,7 @@ function ended(int $process, int $at): void
     $answered[$process] = unpack('P', shmop_read($counts, 8 * $at, 8))[1];
 }
 
-/** Calls until it is killed, but not for ever. */
+/** Calls until it is killed, but not without end. */
 function work(int $at): never
 {
     global $counts;

@@ -1,6 +1,6 @@
 <?php // SPDX-License-Identifier: MIT
 
-// php record-work.php PROCESSES CALLS SEED: so many processes make so many random calls each, on the same keys. Values have
+// php record-work.php PROCESSES CALLS SEED: PROCESSES processes make CALLS random calls each, on the same keys. Values have
 // up to some thousand bytes, rows live for a second or two, and some calls wait a little.
 
 declare(strict_types=1);

@@ -31,7 +31,7 @@ judge() {
         status=1
     fi
     for word in "$@"; do
-        grep -qF -- "$word" "$scratch/verdict" || { echo "not told: $word" >&2; status=1; }
+        grep -qF -- "$word" "$scratch/verdict" || { echo "not printed: $word" >&2; status=1; }
     done
 }
 
@@ -138,7 +138,7 @@ wrong() {
     local name=$1 folder="$scratch/build.$1"
     "$here/../stage.sh" "$folder"
     php -r '[, $file, $old, $new] = $argv; $text = file_get_contents($file);
-        substr_count($text, $old) === 1 || exit("$old does not stand there once\n");
+        substr_count($text, $old) === 1 || exit("$old is not there once\n");
         file_put_contents($file, str_replace($old, $new, $text));' "$folder/$2" "$3" "$4"
     (cd "$folder" && phpize && ./configure && make) >"$folder/log" 2>&1 || { tail "$folder/log" >&2; exit 1; }
     echo "a build that is wrong: $name"
@@ -161,7 +161,7 @@ check_folders() {
     local file
     echo 'an empty folder'
     mkdir "$scratch/empty"
-    judge "$scratch/empty" 1 'there is no record of the extension'
+    judge "$scratch/empty" 1 'no record of the extension'
     echo 'records of two servers'
     cp -r "$scratch/work" "$scratch/two"
     cp "$scratch/without"/* "$scratch/two/"

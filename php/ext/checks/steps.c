@@ -1,6 +1,6 @@
 /* SPDX-License-Identifier: MIT */
-/* Lets a stopped process go on for so many instructions and kills it: steps PROCESS COUNT
- * Where it stops itself again before (SIGSTOP), or ends, the number of instructions that it made is printed. */
+/* Lets a stopped process run for COUNT instructions and kills it: steps PROCESS COUNT
+ * If it stops itself again before (SIGSTOP), or ends, the number of instructions that it made is printed. */
 #include <errno.h>
 #include <signal.h>
 #include <stdio.h>

@@ -2,10 +2,10 @@
 
 // A process is killed at an instruction of a call, one after another, and each time the next process has to find the
 // cache as it was before the call, as it is after it, or empty; and has to be able to use it. Each instruction from the
-// call's beginning to its end has its turn, or one in so many.
+// call's beginning to its end has its turn, or one of every few.
 // php steps.php STEPS CALL POINTS
 // STEPS is the built steps.c, and POINTS at how many places of the call a process dies; 0: at each, or
-// a thousand times where the call is long.
+// a thousand times if the call is long.
 
 declare(strict_types=1);
 
@@ -13,7 +13,7 @@ const PATIENCE = 20;
 /** Instructions of a call that is stepped through. */
 const MOST = 20000;
 
-/** The rows before each call; with a filler of so many bytes. */
+/** The rows before each call; with a filler of this many bytes. */
 function before(int $filler = 0): array
 {
     return ['text' => str_repeat('a', 300), 'long' => str_repeat('l', 6000), 'list' => [1, 'two' => 2.5, 'x'], 'number' => 5, 'other' => 'stays', 'null' => null]
@@ -54,7 +54,7 @@ function fill(int $filler): void
     apcu_store(before($filler));
 }
 
-/** A child that has stopped itself before its call, and will do it behind it. */
+/** A child that has stopped itself before its call, and will do it after the call. */
 function stopped(callable $call): int
 {
     $id = pcntl_fork();
@@ -163,7 +163,7 @@ for ($i = 0; $i < $points; $i++) {
     $end = found($after, $filler);
     $ends[$end]++;
     if ($end > 2) {
-        printf("%s: killed after %d of %d %s: %s\n", $name, $at, $all ?: $took, $unit, [3 => 'another state', 4 => 'it is of no use', 5 => 'nobody was answered'][$end]);
+        printf("%s: killed after %d of %d %s: %s\n", $name, $at, $all ?: $took, $unit, [3 => 'another state', 4 => 'it cannot be used', 5 => 'no reply'][$end]);
     }
     if ($end === 5) {
         exit(2);

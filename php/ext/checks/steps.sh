@@ -1,8 +1,9 @@
 #!/usr/bin/env bash
 # SPDX-License-Identifier: MIT
-# A process that dies at an instruction of a call, whichever it is, leaves the cache as it was before, as it is after, or
+# A process that dies at any instruction of a call leaves the cache as it was before, as it is after, or
 # empty, and the next process can use it (steps.php). Each kind of call is stepped through by ptrace (steps.c), and
-# killed at so many places, one in each part; a long one at moments of its time. The same over PHP's APCu for one call, which is only told.
+# killed at POINTS places, one in each part; a long one at moments of its time. The same over PHP's APCu for one call,
+# which is only reported.
 # Usage: php/ext/checks/steps.sh [SO [POINTS]]: 150 places a call without POINTS, and 0 is each instruction. It needs cc
 # and php with pcntl and posix.
 set -eu
