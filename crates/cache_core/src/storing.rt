@@ -140,8 +140,8 @@ impl Core {
         self.store_content(seg, key, slot, &content, ttl, exclusive, t)
     }
 
-    /// Stores the graph that `content` represents, as `store` does; `slot` is the key's. No graph is
-    /// made of a scalar or a byte string.
+    /// Stores the graph that `content` represents, as `store` does; `slot` is the key's. Of a scalar
+    /// or a byte string no graph is made.
     pub fn store_content<S: Segment>(
         &mut self,
         seg: &mut S,
