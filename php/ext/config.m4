@@ -51,7 +51,7 @@ if test "$PHP_APCU" != "no"; then
   APCU_SHARED_LIBADD="$APCU_SHARED_LIBADD -export-symbols-regex ^get_module"
   PHP_SUBST([APCU_SHARED_LIBADD])
 
-  APCU_CFLAGS="-std=gnu11 -D_GNU_SOURCE -DZEND_ENABLE_STATIC_TSRMLS_CACHE=1 -fvisibility=hidden -Wall -Wextra -Wno-unused-parameter"
+  APCU_CFLAGS="-std=gnu11 -D_GNU_SOURCE -DZEND_ENABLE_STATIC_TSRMLS_CACHE=1 -fvisibility=hidden -Wall -Wextra -Wno-unused-parameter -Werror=implicit-function-declaration"
   PHP_NEW_EXTENSION([apcu], [apcu.c entry.c functions.c info.c iterator.c kept.c preload.c record.c settings.c shm.c values.c $apcu_engine],
     [$ext_shared],, [$APCU_CFLAGS])
   PHP_INSTALL_HEADERS([ext/apcu], [apc_serializer.h])

@@ -209,6 +209,11 @@ typedef struct __attribute__((packed, may_alias)) {
 	record_event is;
 } event_in_ring;
 
+static zend_always_inline bool is_store(const cache_request *request)
+{
+	return request->kind == CACHE_STORE || request->kind == CACHE_ADD;
+}
+
 /* Each kind has a case, so that one that cache_c.h gains does not compile until it is decided here what of it is
  * recorded. */
 #pragma GCC diagnostic push
