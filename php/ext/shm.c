@@ -307,22 +307,28 @@ void apcu_unlock(void)
 
 apcu_state apcu_shm_state(void)
 {
-	apcu_state state = {0};
+	return (apcu_state) {
+		.counts = cache_get_counts(apcu_shm->cache),
+		.start_time = apcu_shm->start_time,
+		.remakes = apcu_shm->remade,
+		.seats = seats_count(&apcu_shm->seats),
+		.longest = apcu_shm->lock.longest,
+		.longest_entry = atomic_load_explicit(&apcu_shm->longest_entry, memory_order_relaxed)
+	};
+}
 
-	if (!apcu_lock()) {
-		return state;
+size_t apcu_shm_rows(void)
+{
+	return apcu_shm ? *(volatile uint32_t *) &apcu_shm->view.rows : 0;
+}
+
+void apcu_shm_note_entry_wait(uint64_t nanoseconds)
+{
+	uint64_t longest = atomic_load_explicit(&apcu_shm->longest_entry, memory_order_relaxed);
+
+	while (nanoseconds > longest && !atomic_compare_exchange_weak_explicit(&apcu_shm->longest_entry, &longest, nanoseconds,
+			memory_order_relaxed, memory_order_relaxed)) {
 	}
-	state.remakes = apcu_shm->remade;
-	state.seats = seats_count(&apcu_shm->seats);
-	state.longest = apcu_shm->lock.longest;
-	apcu_unlock();
-	/* Each is written by the owner of that lock, and only grows. */
-	for (size_t i = 0; i < APCU_ENTRY_GROUPS; i++) {
-		if (apcu_shm->entry[i].lock.longest > state.longest_entry) {
-			state.longest_entry = apcu_shm->entry[i].lock.longest;
-		}
-	}
-	return state;
 }
 
 static bool may_drop_rows(uint32_t kind)

@@ -24,6 +24,7 @@ typedef struct {
 	volatile bool is_busy;      /* a call that may change it is under way */
 	uint64_t remade;            /* how often a process died in such a call, and the cache was made anew */
 	_Atomic uint64_t stamps;    /* how many stamps were given to values; it goes on in a cache that is made later */
+	_Atomic uint64_t longest_entry; /* nanoseconds of the longest wait for a lock of apcu_entry */
 	time_t start_time;          /* when the cache was made or cleared, or the last expunge was */
 	uint64_t expunges;          /* how many there were by then */
 	struct {
@@ -60,16 +61,24 @@ void apcu_shm_stop(void);
 bool apcu_lock(void);
 void apcu_unlock(void);
 
-/* What an operator watches besides the cache's own counts, since the server started. */
+/* The cache's own counts, and what an operator watches besides, since the server started. */
 typedef struct {
+	cache_counts counts;
+	time_t start_time;
 	uint64_t remakes;       /* how often a process died in a call, and the cache was emptied */
 	unsigned seats;         /* seats that are taken now */
 	uint64_t longest;       /* nanoseconds of the longest wait for the lock, of those that slept */
 	uint64_t longest_entry; /* the same of a lock of apcu_entry */
 } apcu_state;
 
-/* Without the lock; all are 0 if there is no cache. */
+/* Under the lock. */
 apcu_state apcu_shm_state(void);
+
+/* Without the lock, and so out of date: how many rows there were a moment ago. 0 if there is no cache. */
+size_t apcu_shm_rows(void);
+
+/* Without the lock: notes how long this process waited for a lock of apcu_entry. */
+void apcu_shm_note_entry_wait(uint64_t nanoseconds);
 
 /* A number that no other call returns in any process, from 1 on. It needs no lock. */
 uint64_t apcu_shm_stamp(void);
