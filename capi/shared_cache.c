@@ -146,7 +146,7 @@ static void set_busy(bool busy) {
 /* The lock, a whole cache, and no use that waits. */
 static void take_lock(void) {
     int locked = robust_lock_take(&head->lock);
-    bool has_uses = lanes_wait(&head->lanes);
+    lanes_wait(&head->lanes);
     if (locked == EOWNERDEAD) {
         /* The lock is ours. Where no call was under way its cache stands there whole. Where one
          * was, the flag stays until a new cache is made. Whoever dies in here leaves the lock to
@@ -167,7 +167,7 @@ static void take_lock(void) {
     } else if (locked != 0) {
         abort(); /* it is no lock: somebody wrote over it */
     }
-    if (has_uses) {
+    if (lanes_has_uses(&head->lanes)) {
         lanes_count(&head->lanes, handle);
         cache_get_view(handle, &head->view);
     }

@@ -14,15 +14,19 @@
 /* Keys are spread over as many groups for apcu_entry. */
 #define APCU_ENTRY_GROUPS 64
 
+/* In cache lines by who writes them: each call that changes the cache writes the first, and few calls write the second,
+ * which each call reads. */
 typedef struct {
 	robust_lock lock;           /* one call of the cache at a time */
-	struct {
-		robust_lock lock;           /* one callback of apcu_entry for keys of this group at a time */
-		_Atomic uint32_t waits_for; /* 1 + the group whose lock its owner waits for; 0: none */
-	} entry[APCU_ENTRY_GROUPS];
-	volatile bool is_made;      /* there is a cache */
 	volatile bool is_busy;      /* a call that may change it is under way */
-	uint64_t remade;            /* how often a process died in such a call, and the cache was made anew */
+
+	_Alignas(64) volatile bool is_made; /* there is a cache */
+	cache_shape shape;
+	struct cache_view view;     /* of the cache as it is, for those that read in a lane */
+	uint8_t *cache;             /* the handle */
+	uint64_t *words;            /* what the places of the cache's strings are in */
+
+	_Alignas(64) uint64_t remade; /* how often a process died in such a call, and the cache was made anew */
 	_Atomic uint64_t stamps;    /* how many stamps were given to values; it goes on in a cache that is made later */
 	_Atomic uint64_t longest_entry; /* nanoseconds of the longest wait for a lock of apcu_entry */
 	time_t start_time;          /* when the cache was made or cleared, or the last expunge was */
@@ -33,13 +37,13 @@ typedef struct {
 		time_t t;
 		pid_t pid;
 	} last;                     /* who stored which key last; for apc.slam_defense alone */
-	cache_shape shape;
 	size_t size, used;          /* bytes of the mapping, and of those that were given out */
-	uint8_t *cache;             /* the handle */
-	uint64_t *words;            /* what the places of the cache's strings are in */
-	struct cache_view view;     /* of the cache as it is, for those that read in a lane */
 	seats seats;                /* the processes that copy from them outside of the lock */
 	lanes lanes;                /* reads without the lock, and the uses that they noted */
+	struct {
+		robust_lock lock;           /* one callback of apcu_entry for keys of this group at a time */
+		_Atomic uint32_t waits_for; /* 1 + the group whose lock its owner waits for; 0: none */
+	} entry[APCU_ENTRY_GROUPS];
 } apcu_shared;
 
 /* Null where there is no cache in this process. */
@@ -88,29 +92,37 @@ cache_answer apcu_ask(const cache_request *request, const zend_string *key, cons
 
 struct apcu_kept;
 
-/* A look-up that other processes may make at the same time: in a lane, or with the lock. */
+/* Look-ups that other processes may make at the same time: in a lane, or with the lock. False if it was not done, as
+ * there is no cache, or calls are recorded: then each is an event of its own. `hash` is that of the key. */
+
+/* A string of at most so many bytes is copied twice: there is no memory of PHP's in a lane. */
+#define APCU_FEW_BYTES 1024
+
+/* A fetch. */
 typedef struct {
-	lane *lane;
-	bool has_lock;
-} apcu_reading;
+	struct cache_found found;
+	struct apcu_kept *kept;   /* the value is kept: no bytes are copied */
+	char *bytes;              /* where a string's are; null: there is no room for it, and nothing was counted */
+} apcu_seen;
 
-/* Begins one at the second t. Until apcu_read_end the rules of the lock hold. False if there is no cache, and
- * while calls are recorded, as each is an event of its own then. */
-bool apcu_read_begin(apcu_reading *reading, time_t t, bool may_note);
+/* `few` has room for APCU_FEW_BYTES; a longer string is copied to `text`, which may be null. `only_hits` counts no miss. */
+bool apcu_read(zend_string *key, uint64_t hash, time_t t, bool only_hits, char *few, zend_string *text, apcu_seen *seen);
 
-/* The row that a look-up of the key finds at this second; it counts nothing. */
-void apcu_read_find(const zend_string *key, uint64_t hash, time_t t, struct cache_found *found);
+/* Whether a fetch finds the key. */
+bool apcu_read_exists(const zend_string *key, uint64_t hash, time_t t, bool *is_there);
 
-/* The kept value of a string that was found, or null. */
-struct apcu_kept *apcu_read_kept(zend_string *key, const struct cache_found *found);
+/* Keys of a list that are looked up in one lane. Their strings have APCU_FEW_BYTES together. */
+#define APCU_KEYS_AT_ONCE 16
 
-/* Copies the bytes of a string that was found. */
-void apcu_read_copy(const apcu_reading *reading, const struct cache_found *found, char *out);
+typedef struct {
+	zend_string *key;
+	cache_answer answer;
+	char *bytes;
+} apcu_looked_up;
 
-/* Counts a hit of a row, or a miss for 0; if it was begun so, and again while it may. */
-void apcu_read_note(const apcu_reading *reading, uint32_t row, time_t t);
-bool apcu_read_may_note(const apcu_reading *reading, time_t t);
-void apcu_read_end(const apcu_reading *reading);
+/* Fetches at most APCU_KEYS_AT_ONCE: how many keys were looked up, from the first on. It stops before a string that has
+ * no room, and behind a value whose code might change what the others are. */
+size_t apcu_read_many(apcu_looked_up *keys, size_t count, char *few, time_t t);
 
 /* Whether PHP's hash of ASCII keys is the cache's. Of other keys it is another one if char has a sign. */
 extern bool apcu_has_hash_of_php;
