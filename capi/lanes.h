@@ -42,9 +42,9 @@ typedef struct {
 /* In memory of zeros nothing was noted. */
 typedef struct {
     uint32_t count;              /* a power of two; 1 if the lock is a mutex */
-    _Atomic uint32_t is_counted; /* 1 + the lane whose uses are counted; 0: none */
     uint64_t t;                  /* the second of all uses that wait */
     lane lane[LANES_MOST];
+    _Atomic uint32_t is_counted; /* 1 + the lane whose uses are counted; 0: none */
 } lanes;
 
 /* In memory of zeros, before the first reader: twice as many lanes as processors, so that a reader
@@ -98,6 +98,14 @@ static inline void lanes_set_counted(lanes *all, uint32_t which) {
     atomic_signal_fence(memory_order_seq_cst);
     atomic_store_explicit(&all->is_counted, which, memory_order_relaxed);
     atomic_signal_fence(memory_order_seq_cst);
+}
+
+/* With the lock, and no reader inside: whether uses wait to be counted. */
+static inline bool lanes_has_uses(const lanes *all) {
+    uint64_t uses = 0;
+    for (const lane *one = all->lane, *end = one + all->count; one < end; one++)
+        uses |= one->uses | one->misses;
+    return uses != 0;
 }
 
 /* With the lock, and no reader inside: counts what was noted, in any order of lanes. */
@@ -245,27 +253,28 @@ ROBUST_SELDOM static void lane_wait(lane *one) {
     }
 }
 
-/* With the lock: waits until no reader is inside; none comes before the lock is released. Whether
- * uses wait to be counted. */
-static inline bool lanes_wait(lanes *all) {
-    bool has_uses = false;
+ROBUST_SELDOM static void lanes_wait_late(lanes *all) {
     for (uint32_t i = 0; i < all->count; i++) {
         lane *one = &all->lane[i];
-        if (__builtin_expect(
-                !robust_is_free(atomic_load_explicit(&one->word, memory_order_seq_cst)), false))
+        if (!robust_is_free(atomic_load_explicit(&one->word, memory_order_seq_cst)))
             lane_wait(one);
-        has_uses |= one->uses != 0 || one->misses != 0;
     }
-    return has_uses;
+}
+
+/* With the lock: waits until no reader is inside; none comes before the lock is released. */
+static inline void lanes_wait(lanes *all) {
+    uint32_t words = 0;
+    for (lane *one = all->lane, *end = one + all->count; one < end; one++)
+        words |= atomic_load_explicit(&one->word, memory_order_seq_cst);
+    if (__builtin_expect(!robust_is_free(words), false))
+        lanes_wait_late(all);
 }
 #else
 static inline void lane_release(lane *mine) { (void)mine; }
 static inline lane *lanes_enter(lanes *all, robust_lock *lock) {
     return (void)all, (void)lock, NULL;
 }
-static inline bool lanes_wait(lanes *all) {
-    return all->lane[0].uses != 0 || all->lane[0].misses != 0;
-}
+static inline void lanes_wait(lanes *all) { (void)all; }
 #endif
 
 #endif

@@ -27,7 +27,7 @@ typedef struct {
 /* Written under the lock, except for the marks. */
 typedef struct {
     const robust_lock *lock;
-    uint64_t taken;  /* seats by which the cache may pin rows, seat 0 lowest */
+    uint64_t taken;  /* seats that are used, or by which the cache may pin rows, seat 0 lowest */
     unsigned taking; /* 1 + the seat whose mark the owner of the lock takes; 0: none */
     seat_of_one seat[CACHE_SEATS];
 } seats;
@@ -61,8 +61,8 @@ static inline unsigned seats_free(seats *all) {
 /* Under the lock: how many are used. */
 static inline unsigned seats_count(seats *all) {
     unsigned count = 0;
-    for (unsigned number = 0; number < CACHE_SEATS; number++)
-        count += seats_is_used(all, number);
+    for (uint64_t left = all->taken; left != 0; left &= left - 1)
+        count += seats_is_used(all, (unsigned)__builtin_ctzll(left));
     return count;
 }
 
@@ -131,9 +131,12 @@ static inline void seats_settle(seats *all) {
 
 /* Under the lock, before the cache is emptied: no copy from it counts. */
 static inline void seats_clear(seats *all) {
-    for (unsigned number = 0; number < CACHE_SEATS; number++)
-        seats_end_copy(all, number);
     all->taken = 0;
+    for (unsigned number = 0; number < CACHE_SEATS; number++) {
+        seats_end_copy(all, number);
+        if (seats_is_used(all, number))
+            seats_note(all, number);
+    }
 }
 
 #endif

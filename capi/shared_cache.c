@@ -146,7 +146,7 @@ static void set_busy(bool busy) {
 /* The lock, a valid cache, and no use that waits to be counted. */
 static void take_lock(void) {
     int locked = robust_lock_take(&head->lock);
-    bool has_uses = lanes_wait(&head->lanes);
+    lanes_wait(&head->lanes);
     if (locked == EOWNERDEAD) {
         /* The lock is ours. If no call was in progress, its cache is valid. If one was, the flag
          * stays until a new cache is made. A process that dies in here leaves the lock to
@@ -167,7 +167,7 @@ static void take_lock(void) {
     } else if (locked != 0) {
         abort(); /* it is no lock: it was overwritten */
     }
-    if (has_uses) {
+    if (lanes_has_uses(&head->lanes)) {
         lanes_count(&head->lanes, handle);
         cache_get_view(handle, &head->view);
     }

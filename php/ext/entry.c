@@ -117,7 +117,7 @@ static bool wait_for(uint32_t group, bool *is_taken)
 	*is_taken = error == 0 || error == EOWNERDEAD;
 	if (*is_taken) {
 		if (since) {
-			robust_note_sleep(lock, since);
+			apcu_shm_note_entry_wait(robust_nanoseconds() - since);
 		}
 		atomic_store(&apcu_shm->entry[group].waits_for, 0);
 	}

@@ -4,34 +4,60 @@
 #include "ext/standard/info.h"
 
 /* The names of a row's fields. They live as long as the module, so no call makes them. */
-enum { INFO, HITS, NUM_HITS, ACCESS_TIME, MTIME, CREATION_TIME, DELETION_TIME, TTL, REFS, REF_COUNT, MEM_SIZE, NAMES };
+enum {
+	NUM_SLOTS, TTL, NUM_HITS, NUM_MISSES, NUM_INSERTS, NUM_ENTRIES, EXPUNGES, START_TIME, MEM_SIZE, MEMORY_TYPE, MMAP,
+	CACHE_LIST, DELETED_LIST, SLOT_DISTRIBUTION,
+	REMAKES, SEATS_TAKEN, LONGEST_WAIT, LONGEST_ENTRY_WAIT, KEPT_ENTRIES, KEPT_SIZE, KEPT_HITS,
+	INFO, HITS, ACCESS_TIME, MTIME, CREATION_TIME, DELETION_TIME, REFS, REF_COUNT,
+	NUM_SEG, SEG_SIZE, AVAIL_MEM, BLOCK_LISTS, SIZE, OFFSET,
+	NAMES
+};
 static zend_string *names[NAMES];
 
 void apcu_info_start(void)
 {
-	static const char *const texts[NAMES] = {"info", "hits", "num_hits", "access_time", "mtime", "creation_time",
-		"deletion_time", "ttl", "refs", "ref_count", "mem_size"};
+	static const char *const texts[NAMES] = {
+		"num_slots", "ttl", "num_hits", "num_misses", "num_inserts", "num_entries", "expunges", "start_time", "mem_size",
+		"memory_type", "mmap",
+		"cache_list", "deleted_list", "slot_distribution",
+		"remakes", "seats_taken", "longest_wait", "longest_entry_wait", "kept_entries", "kept_size", "kept_hits",
+		"info", "hits", "access_time", "mtime", "creation_time", "deletion_time", "refs", "ref_count",
+		"num_seg", "seg_size", "avail_mem", "block_lists", "size", "offset"
+	};
 
 	for (int i = 0; i < NAMES; i++) {
 		names[i] = zend_string_init_interned(texts[i], strlen(texts[i]), true);
 	}
 }
 
-/* In an array that has no such name yet. */
-static void tell_long(zval *told, int name, zend_long value)
+/* An array with room for these members. */
+static zend_always_inline void tell_start(zval *told, uint32_t members)
+{
+	array_init_size(told, members);
+	zend_hash_real_init_mixed(Z_ARRVAL_P(told));
+}
+
+/* In an array that has room for it, and no such name yet. */
+static zend_always_inline void tell(zval *told, int name, zval *value)
+{
+	ZEND_ASSERT(Z_ARRVAL_P(told)->nNumUsed < Z_ARRVAL_P(told)->nTableSize);
+	_zend_hash_append_ex(Z_ARRVAL_P(told), names[name], value, true);
+}
+
+static zend_always_inline void tell_long(zval *told, int name, zend_long value)
 {
 	zval number;
 
 	ZVAL_LONG(&number, value);
-	zend_hash_add_new(Z_ARRVAL_P(told), names[name], &number);
+	tell(told, name, &number);
 }
 
-static void tell_double(zval *told, int name, double value)
+static zend_always_inline void tell_double(zval *told, int name, double value)
 {
 	zval number;
 
 	ZVAL_DOUBLE(&number, value);
-	zend_hash_add_new(Z_ARRVAL_P(told), names[name], &number);
+	tell(told, name, &number);
 }
 
 void apcu_rows_start(apcu_rows *list, size_t room, size_t size)
@@ -95,13 +121,12 @@ typedef struct {
 /* Under the lock, with room for all rows. False if there is no memory for their keys. */
 static bool copy_all(all_rows *all, size_t room)
 {
-	uint32_t slots = apcu_shm->shape.slots;
+	struct cache_listing listing;
 	size_t size = 0;
 
 	/* After the slots come the rows that were removed while a process copies them. */
-	for (uint32_t slot = 0; slot <= slots; slot++) {
-		all->count += cache_list_rows(apcu_shm->cache, slot, 0, all->rows + all->count, room - all->count);
-	}
+	cache_list_slots(apcu_shm->cache, 0, apcu_shm->shape.slots + 1, all->rows, room, &listing);
+	all->count = (size_t) listing.count;
 	for (size_t i = 0; i < all->count; i++) {
 		size += all->rows[i].key_len;
 	}
@@ -119,112 +144,108 @@ static bool copy_all(all_rows *all, size_t room)
 	return true;
 }
 
-static void free_all(all_rows *all)
+/* Room for so many rows. Each page is written here, so that none is taken under the lock. */
+static cache_row *room_for_rows(size_t room)
 {
-	if (all->rows) {
-		efree(all->rows);
+	cache_row *rows = safe_emalloc(room, sizeof *rows, 0);
+
+	for (size_t i = 0; i < room; i += 4096 / sizeof *rows) {
+		*(volatile uint32_t *) &rows[i].place = 0;
 	}
-	free(all->keys);
+	return rows;
 }
 
-/* Lists all rows, and the cache's counts at the same moment. False if there is no cache. */
-static bool list_all(all_rows *all, cache_counts *counts)
+/* Lists all rows, and the cache's state at the same moment. False if there is no cache. */
+static bool list_all(all_rows *all, apcu_state *state)
 {
-	size_t room = 0;
+	size_t most = apcu_shm_rows();
+	bool is_copied = false;
 
-	*all = (all_rows) {0};
-	while (apcu_lock()) {
-		bool is_copied = false;
+	while (!is_copied) {
+		/* More rows may be stored before the lock is taken. */
+		size_t room = most + most / 16 + CACHE_SEATS;
 
-		*counts = cache_get_counts(apcu_shm->cache);
-		size_t most = (size_t) counts->entries + CACHE_SEATS;
-		bool is_room = most <= room;
-		if (is_room) {
-			is_copied = copy_all(all, room);
+		*all = (all_rows) {.rows = room_for_rows(room)};
+		if (!apcu_lock()) {
+			efree(all->rows);
+			return false;
 		}
+		*state = apcu_shm_state();
+		most = (size_t) state->counts.entries;
+		bool is_room = most + CACHE_SEATS <= room;
+		is_copied = is_room && copy_all(all, room);
 		apcu_unlock();
-		if (is_copied) {
-			return true;
+		if (UNEXPECTED(!is_copied)) {
+			efree(all->rows);
 		}
-		if (is_room) {
+		if (UNEXPECTED(is_room && !is_copied)) {
 			zend_error_noreturn(E_ERROR, "Out of memory (the keys of " ZEND_ULONG_FMT " rows)", (zend_ulong) all->count);
 		}
-		free_all(all);
-		/* More rows may be stored before the lock is taken again. The pages are written here, and not under the lock. */
-		room = most + most / 16;
-		all->rows = ecalloc(room, sizeof *all->rows);
 	}
-	free_all(all);
-	return false;
+	return true;
 }
 
-static void add_rows(zval *info, const all_rows *all)
+static void tell_row(zval *told, const cache_row *row, const char *key)
 {
-	zval rows, removed, slots, *count = NULL;
+	zval name;
+
+	tell_start(told, 9);
+	ZVAL_STRINGL(&name, key, row->key_len);
+	tell(told, INFO, &name);
+	tell_long(told, TTL, row->ttl);
+	tell_double(told, NUM_HITS, (double) row->hits);
+	tell_long(told, MTIME, (zend_long) row->mtime);
+	tell_long(told, CREATION_TIME, (zend_long) row->ctime);
+	tell_long(told, DELETION_TIME, (zend_long) row->dtime);
+	tell_long(told, ACCESS_TIME, (zend_long) row->atime);
+	tell_long(told, REF_COUNT, 0);
+	tell_long(told, MEM_SIZE, (zend_long) row->size * 8);
+}
+
+static void tell_rows(zval *info, const all_rows *all)
+{
+	const cache_row *row = all->rows, *end = row + all->count;
 	const char *key = all->keys;
+	zval rows, removed, slots, told, *count = NULL;
 
 	array_init_size(&rows, (uint32_t) all->count);
 	array_init(&removed);
 	array_init(&slots);
-	for (size_t i = 0; i < all->count; i++) {
-		const cache_row *row = &all->rows[i];
-		zval told, name;
+	zend_hash_real_init_packed(Z_ARRVAL(rows));
+	ZEND_HASH_FILL_PACKED(Z_ARRVAL(rows)) {
+		for (; row < end && row->slot < apcu_shm->shape.slots; row++) {
+			tell_row(&told, row, key);
+			key += row->key_len;
+			ZEND_HASH_FILL_ADD(&told);
 
-		array_init_size(&told, 9);
-		ZVAL_STRINGL(&name, key, row->key_len);
-		zend_hash_add_new(Z_ARRVAL(told), names[INFO], &name);
-		tell_long(&told, TTL, row->ttl);
-		tell_double(&told, NUM_HITS, (double) row->hits);
-		tell_long(&told, MTIME, (zend_long) row->mtime);
-		tell_long(&told, CREATION_TIME, (zend_long) row->ctime);
-		tell_long(&told, DELETION_TIME, (zend_long) row->dtime);
-		tell_long(&told, ACCESS_TIME, (zend_long) row->atime);
-		tell_long(&told, REF_COUNT, 0);
-		tell_long(&told, MEM_SIZE, (zend_long) row->size * 8);
+			/* Rows of a slot are listed one after another. */
+			if (row > all->rows && row->slot == row[-1].slot) {
+				Z_LVAL_P(count)++;
+			} else {
+				zval one;
+
+				ZVAL_LONG(&one, 1);
+				count = zend_hash_index_add_new(Z_ARRVAL(slots), row->slot, &one);
+			}
+		}
+	} ZEND_HASH_FILL_END();
+	for (; row < end; row++) {
+		tell_row(&told, row, key);
 		key += row->key_len;
-		if (row->slot == apcu_shm->shape.slots) {
-			add_next_index_zval(&removed, &told);
-			continue;
-		}
-		add_next_index_zval(&rows, &told);
-
-		/* Rows of a slot are listed one after another. */
-		if (i > 0 && row->slot == row[-1].slot) {
-			Z_LVAL_P(count)++;
-		} else {
-			zval one;
-
-			ZVAL_LONG(&one, 1);
-			count = zend_hash_index_add_new(Z_ARRVAL(slots), row->slot, &one);
-		}
+		zend_hash_next_index_insert_new(Z_ARRVAL(removed), &told);
 	}
-	add_assoc_zval(info, "cache_list", &rows);
-	add_assoc_zval(info, "deleted_list", &removed);
-	add_assoc_zval(info, "slot_distribution", &slots);
-}
-
-/* Members that APCu does not have. */
-static void add_state(zval *info)
-{
-	apcu_state state = apcu_shm_state();
-	apcu_kept_counts kept = apcu_kept_count();
-
-	add_assoc_long(info, "remakes", (zend_long) state.remakes);
-	add_assoc_long(info, "seats_taken", state.seats);
-	add_assoc_double(info, "longest_wait", (double) state.longest / 1e9);
-	add_assoc_double(info, "longest_entry_wait", (double) state.longest_entry / 1e9);
-	add_assoc_long(info, "kept_entries", (zend_long) kept.entries);
-	add_assoc_double(info, "kept_size", (double) kept.bytes);
-	add_assoc_double(info, "kept_hits", (double) kept.hits);
+	tell(info, CACHE_LIST, &rows);
+	tell(info, DELETED_LIST, &removed);
+	tell(info, SLOT_DISTRIBUTION, &slots);
 }
 
 PHP_FUNCTION(apcu_cache_info)
 {
 	bool is_limited = false, is_there;
-	cache_counts counts;
-	cache_shape shape;
-	time_t start_time;
+	apcu_kept_counts kept;
+	apcu_state state;
 	all_rows all;
+	zval memory_type;
 
 	ZEND_PARSE_PARAMETERS_START(0, 1)
 		Z_PARAM_OPTIONAL
@@ -234,40 +255,49 @@ PHP_FUNCTION(apcu_cache_info)
 	if (is_limited) {
 		is_there = apcu_lock();
 		if (is_there) {
-			counts = cache_get_counts(apcu_shm->cache);
+			state = apcu_shm_state();
 			apcu_unlock();
 		}
 	} else {
-		is_there = list_all(&all, &counts);
+		is_there = list_all(&all, &state);
 	}
 	if (!is_there) {
 		php_error_docref(NULL, E_WARNING, "No APC info available.  Perhaps APC is not enabled? Check apc.enabled in your ini file");
 		RETURN_FALSE;
 	}
-	shape = apcu_shm->shape;
-	start_time = apcu_shm->start_time;
 
-	array_init_size(return_value, 20);
-	add_assoc_long(return_value, "num_slots", shape.slots);
-	add_assoc_long(return_value, "ttl", shape.ttl);
-	add_assoc_double(return_value, "num_hits", (double) counts.hits);
-	add_assoc_double(return_value, "num_misses", (double) counts.misses);
-	add_assoc_double(return_value, "num_inserts", (double) counts.inserts);
-	add_assoc_long(return_value, "num_entries", (zend_long) counts.entries);
-	add_assoc_double(return_value, "expunges", (double) counts.expunges);
-	add_assoc_long(return_value, "start_time", (zend_long) start_time);
-	add_assoc_double(return_value, "mem_size", (double) counts.row_words * 8);
-	add_assoc_string(return_value, "memory_type", "mmap");
+	tell_start(return_value, 20);
+	tell_long(return_value, NUM_SLOTS, apcu_shm->shape.slots);
+	tell_long(return_value, TTL, apcu_shm->shape.ttl);
+	tell_double(return_value, NUM_HITS, (double) state.counts.hits);
+	tell_double(return_value, NUM_MISSES, (double) state.counts.misses);
+	tell_double(return_value, NUM_INSERTS, (double) state.counts.inserts);
+	tell_long(return_value, NUM_ENTRIES, (zend_long) state.counts.entries);
+	tell_double(return_value, EXPUNGES, (double) state.counts.expunges);
+	tell_long(return_value, START_TIME, (zend_long) state.start_time);
+	tell_double(return_value, MEM_SIZE, (double) state.counts.row_words * 8);
+	ZVAL_INTERNED_STR(&memory_type, names[MMAP]);
+	tell(return_value, MEMORY_TYPE, &memory_type);
 	if (!is_limited) {
 		zend_try {
-			add_rows(return_value, &all);
+			tell_rows(return_value, &all);
 		} zend_catch {
 			free(all.keys);
 			zend_bailout();
 		} zend_end_try();
-		free_all(&all);
+		efree(all.rows);
+		free(all.keys);
 	}
-	add_state(return_value);
+
+	/* Members that APCu has not. */
+	kept = apcu_kept_count();
+	tell_long(return_value, REMAKES, (zend_long) state.remakes);
+	tell_long(return_value, SEATS_TAKEN, state.seats);
+	tell_double(return_value, LONGEST_WAIT, (double) state.longest / 1e9);
+	tell_double(return_value, LONGEST_ENTRY_WAIT, (double) state.longest_entry / 1e9);
+	tell_long(return_value, KEPT_ENTRIES, (zend_long) kept.entries);
+	tell_double(return_value, KEPT_SIZE, (double) kept.bytes);
+	tell_double(return_value, KEPT_HITS, (double) kept.hits);
 }
 
 PHP_FUNCTION(apcu_key_info)
@@ -287,7 +317,7 @@ PHP_FUNCTION(apcu_key_info)
 	if (row.place == 0) {
 		RETURN_NULL();
 	}
-	array_init_size(return_value, 7);
+	tell_start(return_value, 7);
 	tell_long(return_value, HITS, (zend_long) row.hits);
 	tell_long(return_value, ACCESS_TIME, (zend_long) row.atime);
 	tell_long(return_value, MTIME, (zend_long) row.mtime);
@@ -299,19 +329,19 @@ PHP_FUNCTION(apcu_key_info)
 
 /* All gaps at one moment. The counters have the number of free words, so there are never more gaps than
  * these; what is allocated here is far less, and grows if necessary. */
-static size_t list_gaps(cache_gap **gaps)
+static bool list_gaps(cache_gap **gaps, size_t *count, cache_counts *counts)
 {
-	size_t room = 256;
-	uint64_t count = 0;
-
-	for (;; room *= 2) {
-		*gaps = ecalloc(room, sizeof **gaps);
-		if (apcu_lock()) {
-			count = cache_list_gaps(apcu_shm->cache, 0, *gaps, room);
-			apcu_unlock();
+	for (size_t room = 256;; room *= 2) {
+		*gaps = safe_emalloc(room, sizeof **gaps, 0);
+		if (!apcu_lock()) {
+			efree(*gaps);
+			return false;
 		}
-		if (count < room) {
-			return (size_t) count;
+		*counts = cache_get_counts(apcu_shm->cache);
+		*count = (size_t) cache_list_gaps(apcu_shm->cache, 0, *gaps, room);
+		apcu_unlock();
+		if (*count < room) {
+			return true;
 		}
 		efree(*gaps);
 	}
@@ -319,46 +349,53 @@ static size_t list_gaps(cache_gap **gaps)
 
 PHP_FUNCTION(apcu_sma_info)
 {
-	bool is_limited = false;
+	bool is_limited = false, is_there;
 	cache_counts counts;
+	cache_gap *gaps = NULL;
+	size_t count = 0;
 
 	ZEND_PARSE_PARAMETERS_START(0, 1)
 		Z_PARAM_OPTIONAL
 		Z_PARAM_BOOL(is_limited)
 	ZEND_PARSE_PARAMETERS_END();
 
-	if (!apcu_lock()) {
+	if (is_limited) {
+		is_there = apcu_lock();
+		if (is_there) {
+			counts = cache_get_counts(apcu_shm->cache);
+			apcu_unlock();
+		}
+	} else {
+		is_there = list_gaps(&gaps, &count, &counts);
+	}
+	if (!is_there) {
 		php_error_docref(NULL, E_WARNING, "No APC SMA info available.  Perhaps APC is disabled via apc.enabled?");
 		RETURN_FALSE;
 	}
-	counts = cache_get_counts(apcu_shm->cache);
-	apcu_unlock();
 
-	array_init_size(return_value, 4);
-	add_assoc_long(return_value, "num_seg", apcu_shm->shape.segments);
-	add_assoc_double(return_value, "seg_size", (double) apcu_shm->shape.words * 8);
-	add_assoc_double(return_value, "avail_mem", (double) counts.free_words * 8);
+	tell_start(return_value, 4);
+	tell_long(return_value, NUM_SEG, apcu_shm->shape.segments);
+	tell_double(return_value, SEG_SIZE, (double) apcu_shm->shape.words * 8);
+	tell_double(return_value, AVAIL_MEM, (double) counts.free_words * 8);
 	if (is_limited) {
 		return;
 	}
 
 	zval segments, blocks;
-	cache_gap *gaps;
-	size_t count = list_gaps(&gaps);
 
 	array_init(&segments);
 	array_init_size(&blocks, (uint32_t) count);
 	for (size_t i = 0; i < count; i++) {
 		zval block;
 
-		array_init_size(&block, 2);
-		add_assoc_long(&block, "size", (zend_long) gaps[i].size * 8);
-		add_assoc_long(&block, "offset", (zend_long) gaps[i].place * 8);
+		tell_start(&block, 2);
+		tell_long(&block, SIZE, (zend_long) gaps[i].size * 8);
+		tell_long(&block, OFFSET, (zend_long) gaps[i].place * 8);
 		add_next_index_zval(&blocks, &block);
 	}
 	efree(gaps);
 	add_next_index_zval(&segments, &blocks);
-	add_assoc_zval(return_value, "block_lists", &segments);
+	tell(return_value, BLOCK_LISTS, &segments);
 }
 
 static void print_kept(void)

@@ -209,18 +209,25 @@ void apcu_shm_stop(void)
 
 /* As HANDLE_UNBLOCK_INTERRUPTIONS. That macro assumes that the first waiting signal is still there, but
  * another one that arrives just then may have handled all of them. */
-static void let_signals(void)
+#ifdef ZEND_SIGNALS
+static zend_never_inline void let_waiting_signals(void)
+{
+	sigset_t all, before;
+
+	sigfillset(&all);
+	pthread_sigmask(SIG_BLOCK, &all, &before);
+	if (SIGG(phead)) {
+		zend_signal_handler_unblock();
+	}
+	pthread_sigmask(SIG_SETMASK, &before, NULL);
+}
+#endif
+
+static zend_always_inline void let_signals(void)
 {
 #ifdef ZEND_SIGNALS
 	if (UNEXPECTED(SIGG(depth)-- == SIGG(blocked))) {
-		sigset_t all, before;
-
-		sigfillset(&all);
-		pthread_sigmask(SIG_BLOCK, &all, &before);
-		if (SIGG(phead)) {
-			zend_signal_handler_unblock();
-		}
-		pthread_sigmask(SIG_SETMASK, &before, NULL);
+		let_waiting_signals();
 	}
 #endif
 }
@@ -232,6 +239,17 @@ static void set_busy(bool is_busy)
 	atomic_signal_fence(memory_order_seq_cst);
 	apcu_shm->is_busy = is_busy;
 	atomic_signal_fence(memory_order_seq_cst);
+}
+
+/* After a call that may have changed the cache. Other processes read the view, so it is written only if it changed. */
+static zend_always_inline void renew_view(void)
+{
+	struct cache_view view, *old = &apcu_shm->view;
+
+	cache_get_view(apcu_shm->cache, &view);
+	if (view.rows != old->rows || view.len != old->len || view.slots != old->slots) {
+		*old = view;
+	}
 }
 
 /* Its last owner died. If a call was in progress, what it left may be half a change, and is not
@@ -270,7 +288,11 @@ bool apcu_lock(void)
 		let_signals();
 		return false;
 	}
-	bool has_uses = !apcu_record_is_on() && lanes_wait(&apcu_shm->lanes);
+	/* While calls are recorded, no process reads in a lane. */
+	bool may_have_uses = !apcu_record_is_on();
+	if (EXPECTED(may_have_uses)) {
+		lanes_wait(&apcu_shm->lanes);
+	}
 	if (UNEXPECTED(error != 0)) {
 		recover();
 	}
@@ -278,24 +300,22 @@ bool apcu_lock(void)
 		apcu_unlock();
 		return false;
 	}
-	if (has_uses) {
+	if (EXPECTED(may_have_uses) && lanes_has_uses(&apcu_shm->lanes)) {
 		lanes_count(&apcu_shm->lanes, apcu_shm->cache);
-		cache_get_view(apcu_shm->cache, &apcu_shm->view);
+		renew_view();
 	}
 	return true;
 }
 
-void apcu_unlock(void)
+static zend_never_inline void unlock_with_news(void)
 {
-	const char *message = remade_message, *fault = NULL;
-	bool is_news = has_news;
+	const char *message = remade_message;
 
 	has_news = false;
 	remade_message = NULL;
 	robust_lock_give(&apcu_shm->lock);
-	if (UNEXPECTED(is_news)) {
-		fault = apcu_record_write();
-	}
+
+	const char *fault = apcu_record_write();
 	let_signals();
 	if (UNEXPECTED(message)) {
 		php_log_err(message);
@@ -305,24 +325,40 @@ void apcu_unlock(void)
 	}
 }
 
+void apcu_unlock(void)
+{
+	if (UNEXPECTED(has_news)) {
+		unlock_with_news();
+		return;
+	}
+	robust_lock_give(&apcu_shm->lock);
+	let_signals();
+}
+
 apcu_state apcu_shm_state(void)
 {
-	apcu_state state = {0};
+	return (apcu_state) {
+		.counts = cache_get_counts(apcu_shm->cache),
+		.start_time = apcu_shm->start_time,
+		.remakes = apcu_shm->remade,
+		.seats = seats_count(&apcu_shm->seats),
+		.longest = apcu_shm->lock.longest,
+		.longest_entry = atomic_load_explicit(&apcu_shm->longest_entry, memory_order_relaxed)
+	};
+}
 
-	if (!apcu_lock()) {
-		return state;
+size_t apcu_shm_rows(void)
+{
+	return apcu_shm ? *(volatile uint32_t *) &apcu_shm->view.rows : 0;
+}
+
+void apcu_shm_note_entry_wait(uint64_t nanoseconds)
+{
+	uint64_t longest = atomic_load_explicit(&apcu_shm->longest_entry, memory_order_relaxed);
+
+	while (nanoseconds > longest && !atomic_compare_exchange_weak_explicit(&apcu_shm->longest_entry, &longest, nanoseconds,
+			memory_order_relaxed, memory_order_relaxed)) {
 	}
-	state.remakes = apcu_shm->remade;
-	state.seats = seats_count(&apcu_shm->seats);
-	state.longest = apcu_shm->lock.longest;
-	apcu_unlock();
-	/* Each is written by the owner of that lock, and only grows. */
-	for (size_t i = 0; i < APCU_ENTRY_GROUPS; i++) {
-		if (apcu_shm->entry[i].lock.longest > state.longest_entry) {
-			state.longest_entry = apcu_shm->entry[i].lock.longest;
-		}
-	}
-	return state;
 }
 
 static bool may_drop_rows(uint32_t kind)
@@ -355,42 +391,56 @@ cache_answer apcu_ask(const cache_request *request, const zend_string *key, cons
 		has_news = true;
 	}
 	if (EXPECTED(request->kind != CACHE_EXISTS)) {
-		cache_get_view(apcu_shm->cache, &apcu_shm->view);
+		renew_view();
 	}
-	if (may_drop_rows(request->kind)) {
+	/* After an expunge there is one row at most. */
+	if (UNEXPECTED(apcu_shm->view.rows <= 1) && may_drop_rows(request->kind)) {
 		note_expunges();
 	}
 	set_busy(false);
 	return answer;
 }
 
-bool apcu_read_begin(apcu_reading *reading, time_t t, bool may_note)
+/* A look-up that is under way. Until read_end the rules of the lock hold. */
+typedef struct {
+	lane *lane;
+	bool has_lock;
+} reading;
+
+static zend_never_inline bool read_begin_late(reading *one)
+{
+	let_signals();
+	one->lane = &apcu_shm->lanes.lane[0];
+	one->has_lock = true;
+	return apcu_lock();
+}
+
+static zend_always_inline bool read_begin(reading *one, time_t t, bool may_note)
 {
 	if (UNEXPECTED(!apcu_shm || apcu_is_recorded)) {
 		return false;
 	}
 	HANDLE_BLOCK_INTERRUPTIONS();
-	reading->lane = lanes_enter(&apcu_shm->lanes, &apcu_shm->lock);
-	reading->has_lock = false;
-	if (EXPECTED(reading->lane)) {
-		if (EXPECTED(apcu_shm->is_made && (!may_note || lane_may_note(&apcu_shm->lanes, reading->lane, (uint64_t) t)))) {
+	one->lane = lanes_enter(&apcu_shm->lanes, &apcu_shm->lock);
+	one->has_lock = false;
+	if (EXPECTED(one->lane)) {
+		if (EXPECTED(apcu_shm->is_made && (!may_note || lane_may_note(&apcu_shm->lanes, one->lane, (uint64_t) t)))) {
 			return true;
 		}
-		lane_release(reading->lane);
+		lane_release(one->lane);
 	}
-	let_signals();
-	reading->lane = &apcu_shm->lanes.lane[0];
-	reading->has_lock = true;
-	return apcu_lock();
+	return read_begin_late(one);
 }
 
-void apcu_read_find(const zend_string *key, uint64_t hash, time_t t, struct cache_found *found)
+static zend_always_inline void read_find(const zend_string *key, uint64_t hash, time_t t, struct cache_found *found)
 {
-	cache_find_shared(&apcu_shm->view, apcu_shm->words, apcu_shm->view.len, (const uint8_t *) ZSTR_VAL(key),
-		ZSTR_LEN(key), hash, (uint64_t) t, found);
+	/* There is a cache, so nothing is to be looked for first. */
+	*found = cache_find_shared_unchecked(&apcu_shm->view, apcu_shm->words, apcu_shm->view.len,
+		(const uint8_t *) ZSTR_VAL(key), ZSTR_LEN(key), hash, (uint64_t) t);
 }
 
-apcu_kept *apcu_read_kept(zend_string *key, const struct cache_found *found)
+/* The kept value of a string that was found, or null. */
+static zend_always_inline apcu_kept *read_kept(zend_string *key, const struct cache_found *found)
 {
 	uint8_t tail[APCU_TAIL];
 
@@ -407,31 +457,127 @@ void apcu_copy_found(uint32_t place, size_t len, char *out)
 	memcpy(out, apcu_shm->words + place, len);
 }
 
-bool apcu_read_may_note(const apcu_reading *reading, time_t t)
+static zend_always_inline bool read_may_note(const reading *one, time_t t)
 {
-	return reading->has_lock || lane_may_note(&apcu_shm->lanes, reading->lane, (uint64_t) t);
+	return one->has_lock || lane_may_note(&apcu_shm->lanes, one->lane, (uint64_t) t);
 }
 
-void apcu_read_note(const apcu_reading *reading, uint32_t row, time_t t)
+static zend_never_inline void read_note_with_lock(const reading *one, uint32_t row, time_t t)
 {
-	if (EXPECTED(!reading->has_lock)
-			|| (lanes_set_second(&apcu_shm->lanes, (uint64_t) t) && reading->lane->uses < LANE_USES)) {
-		lane_note(reading->lane, row);
+	if (lanes_set_second(&apcu_shm->lanes, (uint64_t) t) && one->lane->uses < LANE_USES) {
+		lane_note(one->lane, row);
 		return;
 	}
 	/* A request of an earlier second than others have. */
 	lanes_count_now(&apcu_shm->lanes, apcu_shm->cache, row, (uint64_t) t);
-	cache_get_view(apcu_shm->cache, &apcu_shm->view);
+	renew_view();
 }
 
-void apcu_read_end(const apcu_reading *reading)
+/* Counts a hit of a row, or a miss for 0; if it was begun so, and again while it may. */
+static zend_always_inline void read_note(const reading *one, uint32_t row, time_t t)
 {
-	if (UNEXPECTED(reading->has_lock)) {
+	if (EXPECTED(!one->has_lock)) {
+		lane_note(one->lane, row);
+	} else {
+		read_note_with_lock(one, row, t);
+	}
+}
+
+static zend_always_inline void read_end(const reading *one)
+{
+	if (UNEXPECTED(one->has_lock)) {
 		apcu_unlock();
 		return;
 	}
-	lane_release(reading->lane);
+	lane_release(one->lane);
 	let_signals();
+}
+
+static cache_answer answer_of(const struct cache_found *found)
+{
+	return (cache_answer) {found->kind, found->place, found->number, found->len};
+}
+
+bool apcu_read(zend_string *key, uint64_t hash, time_t t, bool only_hits, char *few, zend_string *text, apcu_seen *seen)
+{
+	struct cache_found *found = &seen->found;
+	reading one;
+
+	if (UNEXPECTED(!read_begin(&one, t, true))) {
+		return false;
+	}
+	read_find(key, hash, t, found);
+	seen->kept = read_kept(key, found);
+	seen->bytes = few;
+	if (found->kind == CACHE_STR && EXPECTED(!seen->kept)) {
+		if (found->len > APCU_FEW_BYTES) {
+			seen->bytes = text && found->len <= ZSTR_LEN(text) + 1 ? ZSTR_VAL(text) : NULL;
+		}
+		if (EXPECTED(seen->bytes)) {
+			memcpy(seen->bytes, apcu_shm->words + found->place, found->len);
+		}
+	}
+	if (EXPECTED(seen->bytes) && (EXPECTED(found->row != 0) || !only_hits)) {
+		read_note(&one, found->row, t);
+	}
+	read_end(&one);
+	return true;
+}
+
+bool apcu_read_exists(const zend_string *key, uint64_t hash, time_t t, bool *is_there)
+{
+	struct cache_found found;
+	reading one;
+
+	if (UNEXPECTED(!read_begin(&one, t, false))) {
+		return false;
+	}
+	read_find(key, hash, t, &found);
+	read_end(&one);
+	*is_there = found.row != 0;
+	return true;
+}
+
+size_t apcu_read_many(apcu_looked_up *keys, size_t count, char *few, time_t t)
+{
+	uint64_t hashes[APCU_KEYS_AT_ONCE];
+	reading one;
+	size_t done = 0, used = 0;
+	bool is_plain = true;
+
+	if (UNEXPECTED(apcu_is_recorded)) {
+		return 0;
+	}
+	for (size_t i = 0; i < count; i++) {
+		hashes[i] = apcu_hash_of(keys[i].key);
+	}
+	if (!read_begin(&one, t, true)) {
+		return 0;
+	}
+	while (done < count && is_plain && read_may_note(&one, t)) {
+		apcu_looked_up *key = &keys[done];
+		struct cache_found found;
+
+		read_find(key->key, hashes[done], t, &found);
+		if (found.kind == CACHE_STR) {
+			if (found.len > APCU_FEW_BYTES - used) {
+				break;
+			}
+			key->bytes = few + used;
+			used += found.len;
+			memcpy(key->bytes, apcu_shm->words + found.place, found.len);
+			is_plain = apcu_is_plain(key->bytes, found.len);
+			if (!is_plain && APCU_G(kept_size) > 0) {
+				/* It may be kept. */
+				break;
+			}
+		}
+		read_note(&one, found.row, t);
+		key->answer = answer_of(&found);
+		done++;
+	}
+	read_end(&one);
+	return done;
 }
 
 uint64_t apcu_shm_stamp(void)

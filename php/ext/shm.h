@@ -14,16 +14,21 @@
 /* Keys are spread over this many groups for apcu_entry. */
 #define APCU_ENTRY_GROUPS 64
 
+/* In cache lines by who writes them: each call that changes the cache writes the first, and few calls write the second,
+ * which each call reads. */
 typedef struct {
 	robust_lock lock;           /* one call of the cache at a time */
-	struct {
-		robust_lock lock;           /* one callback of apcu_entry for keys of this group at a time */
-		_Atomic uint32_t waits_for; /* 1 + the group whose lock its owner waits for; 0: none */
-	} entry[APCU_ENTRY_GROUPS];
-	volatile bool is_made;      /* there is a cache */
 	volatile bool is_busy;      /* a call that may change it is in progress */
-	uint64_t remade;            /* how often a process died in such a call, and the cache was recreated */
+
+	_Alignas(64) volatile bool is_made; /* there is a cache */
+	cache_shape shape;
+	struct cache_view view;     /* of the cache as it is, for those that read in a lane */
+	uint8_t *cache;             /* the handle */
+	uint64_t *words;            /* the words to which the places of the cache's strings refer */
+
+	_Alignas(64) uint64_t remade; /* how often a process died in such a call, and the cache was recreated */
 	_Atomic uint64_t stamps;    /* how many stamps were given to values; it continues in a cache that is made later */
+	_Atomic uint64_t longest_entry; /* nanoseconds of the longest wait for a lock of apcu_entry */
 	time_t start_time;          /* when the cache was made or cleared, or the last expunge happened */
 	uint64_t expunges;          /* the number of expunges by then */
 	struct {
@@ -32,13 +37,13 @@ typedef struct {
 		time_t t;
 		pid_t pid;
 	} last;                     /* the last store: process and key; only for apc.slam_defense */
-	cache_shape shape;
 	size_t size, used;          /* bytes of the mapping, and of those that were allocated */
-	uint8_t *cache;             /* the handle */
-	uint64_t *words;            /* the words to which the places of the cache's strings refer */
-	struct cache_view view;     /* of the cache as it is, for those that read in a lane */
 	seats seats;                /* the processes that copy from them outside of the lock */
 	lanes lanes;                /* reads without the lock, and the uses that they noted */
+	struct {
+		robust_lock lock;           /* one callback of apcu_entry for keys of this group at a time */
+		_Atomic uint32_t waits_for; /* 1 + the group whose lock its owner waits for; 0: none */
+	} entry[APCU_ENTRY_GROUPS];
 } apcu_shared;
 
 /* Null if there is no cache in this process. */
@@ -62,14 +67,22 @@ void apcu_unlock(void);
 
 /* Numbers for monitoring besides the cache's own counters, since the server started. */
 typedef struct {
+	cache_counts counts;
+	time_t start_time;
 	uint64_t remakes;       /* how often a process died in a call, and the cache was emptied */
 	unsigned seats;         /* seats that are taken now */
 	uint64_t longest;       /* nanoseconds of the longest wait for the lock, among those that slept */
 	uint64_t longest_entry; /* the same for a lock of apcu_entry */
 } apcu_state;
 
-/* Without the lock; all are 0 if there is no cache. */
+/* Under the lock. */
 apcu_state apcu_shm_state(void);
+
+/* Without the lock, and so out of date: how many rows there were a moment ago. 0 if there is no cache. */
+size_t apcu_shm_rows(void);
+
+/* Without the lock: notes how long this process waited for a lock of apcu_entry. */
+void apcu_shm_note_entry_wait(uint64_t nanoseconds);
 
 /* A number that no other call returns in any process, from 1 on. It needs no lock. */
 uint64_t apcu_shm_stamp(void);
@@ -79,29 +92,41 @@ cache_answer apcu_ask(const cache_request *request, const zend_string *key, cons
 
 struct apcu_kept;
 
-/* A look-up that other processes may make at the same time: in a lane, or with the lock. */
+/* Look-ups that other processes may make at the same time: in a lane, or with the lock. False if it was not done, as
+ * there is no cache, or calls are recorded: then each is an event of its own. `hash` is that of the key. */
+
+/* A string of at most this many bytes is copied on the stack first, and then into PHP's memory, which cannot be used in
+ * a lane. */
+#define APCU_FEW_BYTES 1024
+
+/* A fetch. */
 typedef struct {
-	lane *lane;
-	bool has_lock;
-} apcu_reading;
+	struct cache_found found;
+	struct apcu_kept *kept;   /* the value is kept: no bytes are copied */
+	char *bytes;              /* where a string's are; null: there is no room for it, and nothing was counted */
+} apcu_seen;
 
-/* Begins one at the second t. Until apcu_read_end the rules of the lock hold. False if there is no cache, and
- * while calls are recorded, as each is an event of its own then. */
-bool apcu_read_begin(apcu_reading *reading, time_t t, bool may_note);
+/* `few` has room for APCU_FEW_BYTES; a longer string is copied to `text`, which may be null. `only_hits` counts no miss. */
+bool apcu_read(zend_string *key, uint64_t hash, time_t t, bool only_hits, char *few, zend_string *text, apcu_seen *seen);
 
-/* The row that a look-up of the key finds at this second; it counts nothing. */
-void apcu_read_find(const zend_string *key, uint64_t hash, time_t t, struct cache_found *found);
+/* Whether a fetch finds the key. */
+bool apcu_read_exists(const zend_string *key, uint64_t hash, time_t t, bool *is_there);
 
-/* The kept value of a string that was found, or null. */
-struct apcu_kept *apcu_read_kept(zend_string *key, const struct cache_found *found);
+/* Keys of a list that are looked up in one lane. Their strings have APCU_FEW_BYTES together. */
+#define APCU_KEYS_AT_ONCE 16
+
+typedef struct {
+	zend_string *key;
+	cache_answer answer;
+	char *bytes;
+} apcu_looked_up;
+
+/* Fetches at most APCU_KEYS_AT_ONCE: how many keys were looked up, from the first on. It stops before a string for which
+ * there is no room, and after a value whose code might change the others. */
+size_t apcu_read_many(apcu_looked_up *keys, size_t count, char *few, time_t t);
 
 /* In a lane or under the lock: copies the bytes of a string that was found. */
 void apcu_copy_found(uint32_t place, size_t len, char *out);
-
-/* Counts a hit of a row, or a miss for 0; if it was begun with counting, and again while it may. */
-void apcu_read_note(const apcu_reading *reading, uint32_t row, time_t t);
-bool apcu_read_may_note(const apcu_reading *reading, time_t t);
-void apcu_read_end(const apcu_reading *reading);
 
 /* Whether PHP's hash of ASCII keys is the cache's. That of other keys differs if char has a sign. */
 extern bool apcu_has_hash_of_php;

@@ -29,7 +29,8 @@ foreach ([65534, 65533] as $user) {
 CODE;
 echo run_php($code, "apc.record_dir=$folder", ...$sos);
 echo fileowner(glob("$folder/*.record")[0]), "\n";
-echo preg_replace('/x{9}+x*/', 'xx', taken_record($folder));
+// A second may begin between the two stores.
+echo preg_replace(['/x{9}+x*/', '/^time i:\d+;\n/m'], ['xx', ''], taken_record($folder));
 
 mkdir($folder, 0700);
 chown($folder, 65534);
