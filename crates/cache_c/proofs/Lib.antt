@@ -1,4 +1,3 @@
-pub mod AskedRequests
 pub mod HeldRows
 pub mod Lookups
 pub mod RefusedSeats

@@ -12,7 +12,6 @@ mod RowNumbers
 mod CounterRows
 mod WrappedSums
 mod JournalPlays
-mod ExampleRun
 mod CountLemmas
 mod GapLemmas
 mod NewRows

@@ -5,7 +5,6 @@ pub mod SeveralKeys
 pub mod WorkerEnds
 pub mod ScriptSteps
 pub mod Iterators
-pub mod FailedResults
 pub mod CounterLooks
 pub mod PoolKeys
 pub mod Scalars
