@@ -2,7 +2,7 @@
 # SPDX-License-Identifier: MIT
 # Writes READING.md: the definitions that the clauses of `run` rest on, first those of an hour, then the others by subject.
 # It follows the imports word by word, from the clauses through the definitions that they cite, and the words of Rattle's
-# kit through the kit. With --check it writes nothing, and ends with status 1 where READING.md is not what it would write;
+# kit through the kit. With --check it writes nothing, and ends with status 1 if READING.md is not what it would write;
 # what the page says of a kit that is not the one here stays as it is.
 # Usage: docs/reading.sh [--check]
 set -eu
@@ -282,7 +282,7 @@ class Kit:
 
 
 def kit_part(reading, old):
-    """What the page says of the kit: as it says already, where the kit that it names is not here."""
+    """What the page says of the kit: unchanged, if the kit that it names is not here."""
     top, name = kit_at()
     before = re.search(r"^## The kit\n.*", old, re.M | re.S)
     named = re.search(r"`(rattle-kit-\w+)`", before.group()) if before else None
