@@ -113,7 +113,7 @@ typedef struct {
 
 /* The hash of a key: 5381, for each byte times 33 plus the byte, and the highest bit set. PHP's
  * hash of a string (zend_string_hash_val) is the same if all its bytes are ASCII; of other bytes
- * PHP adds negative numbers where char has a sign. It is 0 if the pointer is null or the key has 4
+ * PHP adds negative numbers if char has a sign. It is 0 if the pointer is null or the key has 4
  * GB or more. */
 static inline uint64_t cache_hash(const uint8_t *key, size_t key_len);
 

@@ -9,14 +9,14 @@ them, checks/edits.txt.
                           is: --check then reports them and does not fail, until the text changes
 
 An edit turns one function into a wrong one. Its outcome depends on the crate's text and on the statements of the crates
-below it: the ledger has a sum of each, without comments. --check applies each edit too, without a proof. `rt ci` proves what is below, on a copy of the tree, or takes what it has kept.
-Then a check of the crate as it is begins the edits; where `rt check` left its work in out/, it takes a few seconds.
-Edits of different functions are tried in one check. An edit is refused where the check says so of its own function: one
-that only calls another refused function is tried again without that one. An edit that changes a statement, so that more
+below it: the ledger has a sum of each, without comments. --check applies each edit too, without a proof. `rt ci` proves
+what is below, on a copy of the tree, or takes what it has kept. Then the unchanged crate is checked; if `rt check` left
+its work in out/, that takes a few seconds. Edits of different functions are tried in one check. An edit is refused if the
+check says so of its own function: one that only calls another refused function is tried again without that one. An edit that changes a statement, so that more
 than one function may fail, has a check of its own.
 
---jobs N has N crates tried side by side, by default one a processor, or fewer where memory is short.
-Statuses: 0 where each edit is refused and the ledger says so, 1 where one is not or the ledger is old, 2 where an edit
+--jobs N has N crates tried at the same time, by default one a processor, or fewer if memory is short.
+Statuses: 0 if each edit is refused and the ledger says so, 1 if one is not or the ledger is old, 2 if an edit
 could not be tried.
 """
 import argparse
@@ -541,7 +541,7 @@ class Trial:
             status, said = self.over_seed(group)
             found = self.settled(group, status, said)
             outcomes.update({edit.name: found[edit.name] for edit in group if edit.name in found})
-            # What is left of a group comes first in the next, and is alone where nothing else would change.
+            # What is left of a group comes first in the next, and is alone if nothing else would change.
             left = [edit for edit in group if edit.name not in found]
             if len(left) == len(group) > 1:
                 half = len(group) // 2

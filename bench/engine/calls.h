@@ -11,7 +11,7 @@
 /* Kinds of rows, by what they hold: texts of these sizes, an integer, and one that is counted. */
 enum { EIGHT, HUNDRED, INTEGER, COUNTER, TEN_KB, ONE_MB, KINDS };
 
-/* One call under a key, with a value where it needs one: whether it answered what was to come. */
+/* One call under a key, with a value if it needs one: whether it returned what was expected. */
 typedef bool call(zend_string *key, zval *value);
 
 struct measure {

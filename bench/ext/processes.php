@@ -15,7 +15,7 @@ function keys_of(string $family, int $count): array
     return array_map(fn (int $i): string => "$family:$i", range(0, $count - 1));
 }
 
-/** What a fetch gave; it ends the process where that is nothing. */
+/** The result of a fetch; it ends the process if there is none. */
 function found(mixed $value): void
 {
     if ($value === false) {

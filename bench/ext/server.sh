@@ -99,7 +99,7 @@ END
 
 has_ended() { ! kill -0 "$1" 2>/dev/null; }
 
-# Stops processes that a script started, and what they started; by force where one does not end in half a minute.
+# Stops processes that a script started, and what they started; by force if one does not end in half a minute.
 stop() {
     local id workers
     for id in "$@"; do

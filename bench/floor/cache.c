@@ -2,7 +2,7 @@
 /* What a program in C takes for the calls of such a cache: the same rows of a head of twelve words,
  * key and value in 32 MB of words, the same hash and chains, blocks taken from the first gap that
  * fits, gaps that join, and an index of the gaps. It has no lock, copies no value into a graph,
- * and makes no room: a store fails where no gap fits. It is a floor, not a cache.
+ * and makes no room: a store fails if no gap fits. It is a floor, not a cache.
  * Usage: cache ROWS. Prints lines "PICOSECONDS CALL": the least of all batches, a call. */
 #define _POSIX_C_SOURCE 200809L
 #include <inttypes.h>
@@ -30,7 +30,7 @@ static uint64_t *words;
 static uint32_t first_gap;
 
 /* The index of gaps: the size of the gap at each even place or 0, and above it rows of the largest
- * of 32 numbers; and a bit for each even place where a gap begins, and above it rows of a bit for
+ * of 32 numbers; and a bit for each even place at which a gap begins, and above it rows of a bit for
  * each 64. */
 enum { PLACES = WORDS / 2, SIZE_ROWS = 5, BIT_ROWS = 4 };
 static uint32_t *sizes[SIZE_ROWS];
@@ -126,7 +126,7 @@ static void link_gap(uint32_t before, uint32_t gap) {
         first_gap = gap;
 }
 
-/* A block of this size; 0 where no gap fits. The first gaps are tried before the index. */
+/* A block of this size; 0 if no gap fits. The first gaps are tried before the index. */
 static uint32_t take(uint32_t size) {
     uint32_t gap = first_gap, before = 0;
     for (int tries = 0; tries < 3 && gap && sizes[0][gap / 2] < size; tries++) {

@@ -26,7 +26,7 @@ generated_php() {
     tail -n 1 "$scratch/php"
 }
 
-# Ends the script where the last run and PHP's last loop counted otherwise.
+# Ends the script if the last run and PHP's last loop counted differently.
 check_counters() {
     grep '^counter' "$scratch/summary" >"$scratch/ours"
     grep '^counter' "$scratch/php" | cmp -s - "$scratch/ours" || { echo "$1: PHP counted otherwise" >&2; exit 1; }

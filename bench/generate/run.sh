@@ -1,10 +1,10 @@
 #!/usr/bin/env bash
 # SPDX-License-Identifier: MIT
 # Nanoseconds a call of generated runs with 1, 2 and 4 workers, and in the same run the same calls in PHP on its APCu,
-# in as many forked processes (where php with apcu and pcntl is installed); and the most memory that a run of 64 workers
+# in as many forked processes (if php with apcu and pcntl is installed); and the most memory that a run of 64 workers
 # takes. `run` is the whole program, which draws each call before it makes it, without what a run of no calls takes;
 # `php` is the loop of the calls alone, whose numbers were drawn before. Both count on the same counters, which
-# are compared. A figure is the least of three rounds, which are kept only where the machine is quiet (quiet.sh).
+# are compared. A figure is the lowest of three rounds, which are kept only if the machine is quiet (quiet.sh).
 # Usage: bench/generate/run.sh [PROGRAM [CALLS [CALLS-OF-64]]]
 set -eu
 here=$(cd "$(dirname "${BASH_SOURCE[0]}")" && pwd)

@@ -1,7 +1,7 @@
 #!/usr/bin/env bash
 # SPDX-License-Identifier: MIT
 # Times of reading and writing values: apcu_run's store and fetch of a text, and PHP's unserialize and serialize
-# of the same text (where php is installed). Both are whole programs, from standard input to standard output, each
+# of the same text (if php is installed). Both are whole programs, from standard input to standard output, each
 # without the cost of starting; their ratio; what the two calls of PHP alone take, inside its process; and the growth
 # from half of the text to the whole.
 # Usage: bench/notation/run.sh [PROGRAM]

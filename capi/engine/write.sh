@@ -8,7 +8,7 @@
 #   capi/engine/write.sh --compare  does the same elsewhere, and fails if a text here is another; it needs the kit
 #   capi/engine/write.sh --check    fails if the texts are of other sources than those here, by the checksums alone
 #
-# The first two leave the library for x86_64 in crates/cache_c/out/libcache_c.a. Statuses: 0, 1 where a text is another,
+# The first two leave the library for x86_64 in crates/cache_c/out/libcache_c.a. Statuses: 0, 1 if a text is another,
 # those of ../../prove.
 set -u -o pipefail
 here=$(cd "$(dirname "${BASH_SOURCE[0]}")" && pwd)

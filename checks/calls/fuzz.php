@@ -124,7 +124,7 @@ function store(string $word, bool $many): array
     return ["$word " . serialize($values) . " N; i:$ttl;", fn () => serialize($word($values, null, $ttl))];
 }
 
-// A call on a key, or on some where there may be many.
+// A call on a key, or on several if the call allows it.
 function ask(string $word, bool $many): array
 {
     $keys = !$many || mt_rand(0, 2) > 0 ? key_of_row() : keys();

@@ -62,7 +62,7 @@ check_answers() {
     echo "answers: $(grep -c '^[0-9]' "$of.plain") calls, the same with the recorder"
 }
 
-# A program goes on where the recorder can't, and one line says why.
+# A program continues if the recorder can't, and one line says why.
 fault() {
     local what=$1 words=$2 of="$work/fault"
     shift 2

@@ -19,7 +19,7 @@ const KINDS = [
     'behind' => 'bytes behind the end',
 ];
 
-/** The verdict where the line `journal` is none any more. There may be another one in a string, and marks after it. */
+/** The verdict if the line `journal` is none any more. There may be another one in a string, and marks after it. */
 const NO_JOURNAL = 'no: (?:journal|event [0-9]+)';
 
 /** An output, line by line, with the scripts that it is of. */
@@ -279,7 +279,7 @@ function more(Output $of): ?array
 }
 
 /**
- * A worker less, where the one of a mask is the reason for which a dropped row waits among the removed ones, and the
+ * A worker less, if the one of a mask is the reason for which a dropped row waits among the removed ones, and the
  * next call that looks at these finds it there. Up to then no call comes that takes removed rows away.
  */
 function less(Output $of): ?array
@@ -323,7 +323,7 @@ function is_seen(Output $of, int $at): bool
     return false;
 }
 
-/** Whether this time the journal is changed; where a walk has no known number of steps it is left alone. */
+/** Whether this time the journal is changed; if a walk has no known number of steps it is left alone. */
 function is_journal_chosen(Output $of): bool
 {
     return $of->is_counted && $of->marks !== [] && mt_rand(0, 1) === 1;

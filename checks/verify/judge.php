@@ -67,7 +67,7 @@ function played(array $words, string $input, string $scratch, ?string &$message 
     return [proc_close($process), $output];
 }
 
-/** The program's verdict, with a fault named where its status or message does not go with it. */
+/** The program's verdict, with a fault named if its status or message does not match it. */
 function judged(array $words, string $script, string $output, string $scratch): string
 {
     $words = [...$words, '--verify', (string) strlen($script)];

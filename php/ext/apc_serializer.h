@@ -10,7 +10,7 @@
 #define APC_SERIALIZER_ARGS unsigned char **buf, size_t *buf_len, const zval *value, void *config
 #define APC_UNSERIALIZER_ARGS zval *value, unsigned char *buf, size_t buf_len, void *config
 
-/* Both return 1, or 0 where they fail. The first allocates *buf by emalloc; the extension frees it. */
+/* Both return 1, or 0 if they fail. The first allocates *buf by emalloc; the extension frees it. */
 typedef int (*apc_serialize_t)(APC_SERIALIZER_ARGS);
 typedef int (*apc_unserialize_t)(APC_UNSERIALIZER_ARGS);
 
@@ -21,7 +21,7 @@ typedef int (*apc_register_serializer_t)(const char *name, apc_serialize_t seria
 #define APC_SERIALIZER_ABI "0"
 #define APC_SERIALIZER_CONSTANT "\000apc_register_serializer-" APC_SERIALIZER_ABI
 
-/* Registers a serializer: 1, or 0 where the extension apcu is not loaded, has no cache, or has no room for one more.
+/* Registers a serializer: 1, or 0 if the extension apcu is not loaded, has no cache, or has no room for one more.
  * Call it in MINIT, after apcu's (ZEND_MOD_OPTIONAL("apcu")). The name must stay valid until PHP ends. */
 static inline int apc_register_serializer(const char *name, apc_serialize_t serialize,
 	apc_unserialize_t unserialize, void *config)

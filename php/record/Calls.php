@@ -75,7 +75,7 @@ final class Calls
         return \is_array($key) ? self::map($word, $key, $ttl) : self::left('argument');
     }
 
-    /** How long a row may live, as PHP converts it for a file without strict types; null where a script can't say it. */
+    /** How long a row may live, as PHP converts it without strict types; null if a script can't express it. */
     public static function seconds(mixed $ttl): ?int
     {
         if (!\is_int($ttl)) {
@@ -92,8 +92,8 @@ final class Calls
     }
 
     /**
-     * A store of many keys. APCu makes one store after the other, and copies each value by itself. So where the values
-     * may share something, and where one of them can't be said, there is a line for each key.
+     * A store of many keys. APCu makes one store after the other, and copies each value by itself. So if the values
+     * may share something, and if one of them can't be expressed, there is a line for each key.
      */
     private static function map(string $word, array $map, int $ttl): string
     {

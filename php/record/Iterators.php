@@ -74,7 +74,7 @@ final class Iterators
         return "APCUIterator_totals {$made['search']}" . ($made['is_deleted_list'] ? ' s:7:"deleted";' : '') . "\n";
     }
 
-    /** What an iterator was made with, in the words of a script; no walk where a script cannot say it. */
+    /** What an iterator was made with, in the words of a script; no walk if a script cannot express it. */
     private static function read(array $args): array
     {
         [$search, $format, $size, $list] = $args + [null, APC_ITER_ALL, 0, APC_LIST_ACTIVE];

@@ -42,7 +42,7 @@ final class ReplyTexts
         ]) . "\n";
     }
 
-    /** The replies where a store of many keys became a line for each. */
+    /** The replies if a store of many keys became a line for each. */
     private static function add_parts(array $keys, mixed $failed): void
     {
         foreach ($keys as $key) {

@@ -196,7 +196,7 @@ final class Script
         return \hrtime(true) . "\t" . \implode("\t", $counts) . "\n";
     }
 
-    /** The start of the request, and the second of the first line where a request goes on. */
+    /** The start of the request, and the second of the first line if a request continues. */
     private static function start(): string
     {
         $later = self::$second_before === self::$request ? '' : 'time i:' . self::$second_before . ";\n";

@@ -21,7 +21,7 @@ final class Text
     /** No string replaces these: APCu stores none of the first, and the second would take too long. */
     private const LEFT = ['unserializable' => true, 'members' => true];
 
-    /** Why a script can't say the last value; nothing where it can. */
+    /** Why a script can't express the last value; nothing if it can. */
     public static string $why = '';
     /** Whether no part of the last array is shared with another one. */
     public static bool $is_plain = false;

@@ -80,7 +80,7 @@ final class Cells
         return intdiv($this->end + $this->size - 1, $this->size);
     }
 
-    /** The kind that most words of a cell have; `mixed` where more than an eighth is free and more than one is not. */
+    /** The kind that most words of a cell have; `mixed` if more than an eighth is free and more than one is not. */
     public function kind(int $cell): string
     {
         $shares = array_filter(array_map(static fn (array $of): int => $of[$cell] ?? 0, $this->words));

@@ -49,7 +49,7 @@ source_of_apcu() {
 }
 
 # Prints the newest folder with such a name in the source of a Debian package, which is fetched into the scratch folder:
-# source_of PACKAGE NAME. The source is fetched from where the system has its packages from; only the lists that this
+# source_of PACKAGE NAME. The source is fetched from the system's package sources; only the lists that this
 # needs are read, none of the system's are changed. If the newest version has no source there, an older one is taken.
 source_of() {
     local package=$1 name=$2 folder="$scratch/source" options file version

@@ -20,7 +20,7 @@ function pair(string $name, string $value): string
     return $length($name) . $length($value) . $name . $value;
 }
 
-/** The answer's text without its head; null where the other end was lost; false where nothing came in time. */
+/** The answer's text without its head; null if the other end was lost; false if nothing came in time. */
 function ask(string $socket, string $script, string $query): null|string|false
 {
     $to = @stream_socket_client("unix://$socket", $code, $message, PATIENCE);

@@ -112,7 +112,7 @@ class Unreadable
         throw new RuntimeException('not to be read');
     }
 }
-/** Calls the cache inside its own hooks, for a key that no other call names; but not during a walk, where APCu holds its lock and waits for itself. */
+/** Calls the cache inside its own hooks, for a key that no other call names; but not during a walk: APCu would wait for its own lock. */
 class Caller
 {
     public static bool $is_still = false;
@@ -210,7 +210,7 @@ final class Calls
 {
     private const KEYS = ['a', 'b', 'c', 'd', 'A', '7', '-3', '00', '-0', '', 'a b', "x\xff\0y", "\xc3\xa9", '9223372036854775807',
         '9223372036854775808', 'long-key-of-some-length-1', 'long-key-of-some-length-2'];
-    /** Keys that are swapped where time moves, and no others there. */
+    /** Keys that are swapped if time moves, and no others then. */
     private const SWAPPED = ['s1', 's2', '42'];
     private bool $is_moving;
     private int $now;
@@ -266,7 +266,7 @@ final class Calls
         $this->classes = [];
         $value = $this->part();
         // What was read before the part that can't be is freed at once here, and by APCu when the request ends. Old can't
-        // be read where an exception is on its way, as that of another key of the same list.
+        // be read while an exception is pending, as that of another key of the same list.
         $is_unreadable = isset($this->classes[Unreadable::class]) || isset($this->classes[Old::class]);
         return $is_unreadable && isset($this->classes[Ended::class]) ? $this->scalar() : $value;
     }
