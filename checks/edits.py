@@ -12,8 +12,8 @@ An edit turns one function into a wrong one. Its outcome depends on the crate's 
 below it: the ledger has a sum of each, without comments. --check applies each edit too, without a proof. `rt ci` proves
 what is below, on a copy of the tree, or takes what it has kept. Then the unchanged crate is checked; if `rt check` left
 its work in out/, that takes a few seconds. Edits of different functions are tried in one check. An edit is refused if the
-check says so of its own function: one that only calls another refused function is tried again without that one. An edit that changes a statement, so that more
-than one function may fail, has a check of its own.
+check says so of its own function: one that only calls another refused function is tried again without that one. An edit
+that changes a statement, so that more than one function may fail, has a check of its own.
 
 --jobs N has N crates tried at the same time, by default one a processor, or fewer if memory is short.
 Statuses: 0 if each edit is refused and the ledger says so, 1 if one is not or the ledger is old, 2 if an edit

@@ -144,7 +144,7 @@ static bool copy_all(all_rows *all, size_t room)
 	return true;
 }
 
-/* Room for so many rows. Each page is written here, so that none is taken under the lock. */
+/* Room for this many rows. Each page is written here, so that none is allocated under the lock. */
 static cache_row *room_for_rows(size_t room)
 {
 	cache_row *rows = safe_emalloc(room, sizeof *rows, 0);
