@@ -3,9 +3,15 @@
 #![tactic(auto)]
 
 #[cfg(test)]
+mod blocks_rows;
+#[cfg(test)]
+mod calls_rows;
+#[cfg(test)]
 mod counting;
 #[cfg(test)]
 mod cuts;
+#[cfg(test)]
+mod events_rows;
 #[cfg(test)]
 mod faults;
 #[cfg(test)]
@@ -19,8 +25,12 @@ mod makers;
 #[cfg(test)]
 mod pieces;
 #[cfg(test)]
+mod room_rows;
+#[cfg(test)]
 mod rows;
 #[cfg(test)]
 mod runs;
 #[cfg(test)]
 mod threads;
+#[cfg(test)]
+mod values_rows;
