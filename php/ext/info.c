@@ -116,30 +116,52 @@ typedef struct {
 	cache_row *rows;
 	size_t count;
 	char *keys; /* by malloc: their size is known only under the lock */
+	size_t used, size;
 } all_rows;
+
+/* Under the lock: adds the keys of the rows from all->count on. False if there is no memory for them. */
+static bool copy_keys(all_rows *all, size_t count)
+{
+	const cache_row *row = all->rows + all->count, *end = row + count;
+	size_t more = 0;
+
+	for (const cache_row *at = row; at < end; at++) {
+		more += at->key_len;
+	}
+	if (more > all->size - all->used) {
+		size_t size = 2 * all->used + more;
+		char *keys = realloc(all->keys, size);
+
+		if (!keys) {
+			return false;
+		}
+		all->keys = keys;
+		all->size = size;
+	}
+	for (; row < end; row++) {
+		memcpy(all->keys + all->used, apcu_shm->words + row->key_place, row->key_len);
+		all->used += row->key_len;
+	}
+	all->count += count;
+	return true;
+}
+
+/* The number of slots that are listed before their keys are copied: then the processor's cache still has the rows. */
+#define SLOTS_AT_ONCE 64
 
 /* Under the lock, with room for all rows. False if there is no memory for their keys. */
 static bool copy_all(all_rows *all, size_t room)
 {
-	struct cache_listing listing;
-	size_t size = 0;
-
 	/* After the slots come the rows that were removed while a process copies them. */
-	cache_list_slots(apcu_shm->cache, 0, apcu_shm->shape.slots + 1, all->rows, room, &listing);
-	all->count = (size_t) listing.count;
-	for (size_t i = 0; i < all->count; i++) {
-		size += all->rows[i].key_len;
-	}
+	uint32_t end = apcu_shm->shape.slots + 1;
+	struct cache_listing listing;
 
-	char *key = all->keys = malloc(size > 0 ? size : 1);
-	if (!key) {
-		return false;
-	}
-	for (size_t i = 0; i < all->count; i++) {
-		const cache_row *row = &all->rows[i];
-
-		memcpy(key, apcu_shm->words + row->key_place, row->key_len);
-		key += row->key_len;
+	for (uint32_t from = 0, to; from < end; from = to) {
+		to = end - from < SLOTS_AT_ONCE ? end : from + SLOTS_AT_ONCE;
+		cache_list_slots(apcu_shm->cache, from, to, all->rows + all->count, room - all->count, &listing);
+		if (!copy_keys(all, (size_t) listing.count)) {
+			return false;
+		}
 	}
 	return true;
 }
@@ -177,8 +199,10 @@ static bool list_all(all_rows *all, apcu_state *state)
 		apcu_unlock();
 		if (UNEXPECTED(!is_copied)) {
 			efree(all->rows);
+			free(all->keys);
 		}
 		if (UNEXPECTED(is_room && !is_copied)) {
+			free(all->keys);
 			zend_error_noreturn(E_ERROR, "Out of memory (the keys of " ZEND_ULONG_FMT " rows)", (zend_ulong) all->count);
 		}
 	}
