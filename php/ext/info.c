@@ -202,7 +202,6 @@ static bool list_all(all_rows *all, apcu_state *state)
 			free(all->keys);
 		}
 		if (UNEXPECTED(is_room && !is_copied)) {
-			free(all->keys);
 			zend_error_noreturn(E_ERROR, "Out of memory (the keys of " ZEND_ULONG_FMT " rows)", (zend_ulong) all->count);
 		}
 	}
