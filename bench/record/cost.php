@@ -1,7 +1,7 @@
 <?php // SPDX-License-Identifier: MIT
 
-// php cost.php COUNT [PROCESSES]: stores and fetches that number of values of 100 bytes; of several processes, each has an equal
-// part of them.
+// php cost.php COUNT [PROCESSES]: stores and fetches that number of values of 100 bytes; of several processes, each has an
+// equal part of them.
 
 declare(strict_types=1);
 

@@ -406,16 +406,20 @@ static void note_child(void)
 }
 
 /* Null, or why no file is made in the folder: a user other than root and the server's own could replace
- * a file that is being written. */
+ * a file that is being written. This is the case if root starts the server and the folder's owner is the
+ * user of a pool: what root reads there later could be a link of that user's. */
 static const char *fault_of_folder(void)
 {
+	static char text[160];
 	struct stat is;
 
 	if (fstat(folder_file, &is) != 0) {
 		return strerror(errno);
 	}
 	if (is.st_uid != 0 && is.st_uid != geteuid()) {
-		return "the folder is another user's";
+		snprintf(text, sizeof text, "the folder's owner is user %lu; it has to be %suser %lu, which starts the server",
+			(unsigned long) is.st_uid, geteuid() == 0 ? "" : "root or ", (unsigned long) geteuid());
+		return text;
 	}
 	if ((is.st_mode & (S_IWGRP | S_IWOTH)) != 0 && (is.st_mode & S_ISVTX) == 0) {
 		return "others may write in the folder, and it has no sticky bit";

@@ -8,8 +8,9 @@
 # ten million events, and what recording costs.
 # Usage: php/ext/checks/record.sh [SO [REPLAY [CHECK..]]]; REPLAY is the program apcu_replay, which capi/ builds. It needs
 # what suites.sh needs, php-fpm, nginx and wrk for the minute, and php-dev for the builds that are wrong. CHECK is calls,
-# kills, suites, shop, load, builds, many or costs; all without one. In the environment VISITS is how many visits each of
-# four clients makes (1500), SECONDS_OF_LOAD how long wrk runs (60), EVENTS how many events `many` records (10000000).
+# proved, kills, suites, shop, load, builds, many or costs; all without one. In the environment VISITS is how many visits each
+# of four clients makes (1500), SECONDS_OF_LOAD how long wrk runs (60), EVENTS how many events `many` records (10000000), and
+# PROGRAM the program apcu_run that `proved` asks; by default it is the one that ./prove built, and without one it is skipped.
 set -eu
 here=$(cd "$(dirname "$0")" && pwd)
 . "$here/common.sh"
@@ -20,11 +21,14 @@ visits=${VISITS:-1500}
 minute=${SECONDS_OF_LOAD:-60}
 status=0
 
+# Words for php/judge.php.
+options=()
+
 # Judges a folder: judge FOLDER STATUS WORDS..; what it prints has to have these words.
 judge() {
     local folder=$1 wanted=$2 got=0 word
     shift 2
-    php "$top/php/judge.php" --replay "$replay" "$folder" >"$scratch/verdict" 2>&1 || got=$?
+    php "$top/php/judge.php" --replay "$replay" "${options[@]}" "$folder" >"$scratch/verdict" 2>&1 || got=$?
     sed 's/^/    /' "$scratch/verdict"
     if [ "$got" != "$wanted" ]; then
         echo "the status is $got and not $wanted: $folder" >&2
@@ -94,17 +98,19 @@ check_load() {
 }
 
 # Random calls by an extension: work FOLDER SO SETTING..
+calls=5000
 work() {
     local folder=$1 so=$2
     shift 2
-    php_with "$so" -d apc.shm_size=4M -d apc.record_dir="$folder" "$@" "$here/record-work.php" 6 5000 1
+    php_with "$so" -d apc.shm_size=4M -d apc.record_dir="$folder" "$@" "$here/record-work.php" 6 "$calls" 1
 }
 
 # Judges a record that is changed: changed STATUS WORDS KIND [N]; AT in the words is the event.
+record=work
 changed() {
     local wanted=$1 words=$2 at
     rm -rf "$scratch/changed"
-    cp -r "$scratch/work" "$scratch/changed"
+    cp -r "$scratch/$record" "$scratch/changed"
     at=$(php -n "$here/record-change.php" "$3" "$scratch/changed" "${@:4}")
     echo "changed ($3) at event $at"
     judge "$scratch/changed" "$wanted" "${words//AT/$at}"
@@ -138,7 +144,7 @@ wrong() {
     local name=$1 folder="$scratch/build.$1"
     "$here/../stage.sh" "$folder"
     php -r '[, $file, $old, $new] = $argv; $text = file_get_contents($file);
-        substr_count($text, $old) === 1 || exit("$old is not there once\n");
+        if (substr_count($text, $old) !== 1) { fwrite(STDERR, "$file does not have this text once: $old\n"); exit(1); }
         file_put_contents($file, str_replace($old, $new, $text));' "$folder/$2" "$3" "$4"
     (cd "$folder" && phpize && ./configure && make) >"$folder/log" 2>&1 || { tail "$folder/log" >&2; exit 1; }
     echo "a build that is wrong: $name"
@@ -178,8 +184,8 @@ spent() {
     local TIMEFORMAT='%U %S %R' count=$1 processes=$2
     shift 2
     rm -rf "$scratch/cost"
-    { time php_with "$ours" -d apc.shm_size=128M -d error_log=/dev/null "$@" "$top/bench/record/cost.php" "$count" "$processes" \
-        >/dev/null; } 2>&1 | awk '{ printf "%.0f %.0f ", ($1 + $2) * 1000, $3 * 1000 }'
+    { time php_with "$ours" -d apc.shm_size=128M -d error_log=/dev/null "$@" "$top/bench/record/cost.php" \
+        "$count" "$processes" >/dev/null; } 2>&1 | awk '{ printf "%.0f %.0f ", ($1 + $2) * 1000, $3 * 1000 }'
 }
 
 # By one process, and by eight that share four times the calls: in turn without a call, without a record, with one, and with
@@ -196,11 +202,13 @@ check_costs() {
             echo
         done | awk -v calls="$((2 * count))" -v processes="$processes" '
             { for (i = 1; i <= NF; i++) if (NR == 1 || $i < least[i]) least[i] = $i }
-            function told(name, i,    none) {
+            function told(name, i,    none, all, lengths) {
                 none = least[i + 2] - least[i]
-                printf "    %s: %d ms; recorded %d ms (%.2f), without values %d ms (%.2f)\n", name, none, least[i + 4] - least[i],
-                    (least[i + 4] - least[i]) / none, least[i + 6] - least[i], (least[i + 6] - least[i]) / none
-                return (least[i + 4] - least[i]) / none
+                all = least[i + 4] - least[i]
+                lengths = least[i + 6] - least[i]
+                printf "    %s: %d ms; recorded %d ms (%.2f), without values %d ms (%.2f)\n", name, none, all, all / none,
+                    lengths, lengths / none
+                return all / none
             }
             END {
                 printf "%d stores and fetches of 100 bytes, processes: %d\n", calls, processes
@@ -224,6 +232,21 @@ check_calls() {
     check_folders
 }
 
+# The program that is proved from the text to the verdict says the same.
+check_proved() {
+    local program=${PROGRAM:-$top/crates/apcu_run/out/apcu_run} calls=200 record=few options=()
+    [ -x "$program" ] || { echo 'no program apcu_run: no verdict by it'; return; }
+    options=(--proved --program "$program")
+    echo 'random calls, by apcu_run'
+    work "$scratch/few" "$ours"
+    judge "$scratch/few" 0 'each reply is right, by apcu_run'
+    echo 'the same, without values'
+    work "$scratch/lengths" "$ours" -d apc.record_values=0
+    judge "$scratch/lengths" 0 'each reply is right, by apcu_run; values were left out'
+    changed 9 'event AT,' reply
+    changed 9 'event AT,' swap
+}
+
 # Memory is that of the cache, whatever the record's length.
 check_many() {
     php_with "$ours" -d apc.shm_size=64M -d apc.record_dir="$scratch/many" -d apc.record_size=8G "$here/record-many.php" "$events"
@@ -240,13 +263,13 @@ check_builds() {
 		cache_ask(apcu_shm->cache, &back, (const uint8_t *) ZSTR_VAL(key), ZSTR_LEN(key), (const uint8_t *) "", 0);
 	}
 	if (UNEXPECTED(apcu_is_recorded) && apcu_record_note'
-    wrong outlived shm.c '	cache_answer answer = cache_ask(apcu_shm->cache, request,
+    wrong outlived shm.c '	cache_answer answer = cache_ask_hashed(apcu_shm->cache, request,
 ' '	cache_request late = *request;
 	late.t -= late.kind == CACHE_LOOK;
-	cache_answer answer = cache_ask(apcu_shm->cache, &late,
+	cache_answer answer = cache_ask_hashed(apcu_shm->cache, &late,
 '
 }
 
-[ $# -gt 2 ] && shift 2 || set -- calls kills suites shop load builds many costs
+[ $# -gt 2 ] && shift 2 || set -- calls proved kills suites shop load builds many costs
 for name in "$@"; do "check_$name"; done
 exit "$status"

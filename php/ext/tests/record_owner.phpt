@@ -51,5 +51,5 @@ b:1;
 process 1
 1 apcu_store s:8:"of 65533"; s:2000001:"xx<0>";
 b:1;
-apcu: no calls are recorded: %s: the folder is another user's
+apcu: no calls are recorded: %s: the folder's owner is user 65534; it has to be user 0, which starts the server
 0
