@@ -169,7 +169,7 @@ static bool put(uint64_t *position, const void *bytes, size_t len)
 	return true;
 }
 
-/* Where the next event begins. A process that died in one that the ring does not hold left a part of it
+/* The position at which the next event begins. A process that died in one that the ring does not hold left a part of it
  * in the file. */
 static uint64_t next_position(void)
 {
