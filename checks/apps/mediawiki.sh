@@ -99,13 +99,25 @@ compare() {
     diff -r "$scratch/apcu" "$scratch/ours" | head -n 20 | cut -c 1-300 || true
 }
 
+# Runs a command, and prints what it took, with the memory of its largest process; its status is the command's.
+measured() {
+    python3 -c '
+import resource, subprocess, sys, time
+began = time.monotonic()
+status = subprocess.run(sys.argv[1:]).returncode
+used = resource.getrusage(resource.RUSAGE_CHILDREN)
+print(f"{time.monotonic() - began:.2f} seconds by the clock, {used.ru_utime + used.ru_stime:.2f} of the processor, "
+      f"{used.ru_maxrss / 1024:.0f} MB of memory")
+sys.exit(status)' "$@"
+}
+
 record() {
     local got=0
     serve "$so" 4 -d apc.record_dir="$scratch/record" -d apc.record_size=4G
     drive - "$requests" 4
     stop
     find "$scratch/record" -name '*.record' -printf 'a record of %s bytes\n'
-    time php "$top/php/judge.php" --replay "$replay" "$scratch/record" || got=$?
+    measured php "$top/php/judge.php" --replay "$replay" "$scratch/record" || got=$?
     [ "$got" = 0 ] || { echo "the verdict's status is $got" >&2; status=1; }
 }
 
