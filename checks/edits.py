@@ -633,12 +633,24 @@ class Trial:
             whole = {kind for _, kind, _ in told}
             where = f"{told[0][0]}{': ' if told[0][2] else ''}{', '.join(told[0][2])}" if told else first_error(lines)
             kind = NAME_GONE if whole == {NAME_GONE} else REFUSED
+            lemma = rejected_lemma(lines) if kind == NAME_GONE else None
+            if lemma:
+                kind, where = REFUSED, f"{where}, by the lemma {lemma}"
             return kind, f"{where}{'' if edit.functions else ' (it changes a statement)'}"
         if status == 1 and any(re.search(r"\berror\[[\w-]+\]", line) for line in lines):
             return BAD, f"it does not compile: {next(line for line in lines if re.search(r'error', line))[:160]}"
         if status == 3:
             return AT_LIMIT, first_error(lines)
         return UNTRIED, f"its check ended with status {status}: {lines[-1][:160]}"
+
+
+def rejected_lemma(lines):
+    """A lemma that is rejected as it says something else now, and not since a name that it cites is gone."""
+    for line in lines:
+        at = re.match(r"\./proofs/(\w+)\.antt:\d+:\d+: error: `([^`]+)`: ", line)
+        if at and not re.search(r"has no field|is not in scope|has no `|was not admitted", line):
+            return f"{at[1]}: {at[2]}"
+    return None
 
 
 def first_error(lines):
