@@ -31,7 +31,7 @@ function fill(int $rows, int $ttl): array
 
 function churn(int $stores): void
 {
-    $avail = apcu_sma_info(true)['avail_mem'];
+    $avail = (int) apcu_sma_info(true)['avail_mem'];
     $least = intdiv($avail, 5);
     for ($bytes = 16; $bytes <= 2000; $bytes += 32) {
         $texts[] = str_repeat('x', $bytes);
@@ -68,7 +68,7 @@ function leave(int $rows): void
     printf("%d %s rows dropped by a clear\n", timed(apcu_clear_cache(...)), number_format($rows));
     fill($rows, 1);
     // Texts that never expire, until less than 200,000 bytes are free.
-    while (($left = apcu_sma_info(true)['avail_mem']) > 200000) {
+    while (($left = (int) apcu_sma_info(true)['avail_mem']) > 200000) {
         apcu_store("rest$left", str_repeat('z', intdiv($left - 100000, 2)));
     }
     sleep(3);
