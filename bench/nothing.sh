@@ -12,7 +12,7 @@ processors=${1:-$(nproc)}
 room=$(mktemp -d "${2:-/tmp}/nothing-XXXXXX")
 trap 'rm -rf "$room"' EXIT
 trap 'exit 130' INT TERM
-# rt runs programs as the user nobody, which must be able to read this.
+# rt runs programs as an unprivileged user, which must be able to read this.
 chmod 711 "$room"
 cp -al "$kit" "$room/kit"
 git clone -q "$home" "$room/clone"

@@ -122,10 +122,10 @@ $counts = array_fill(0, $clients, ['good' => 0, 'none' => 0, 'lost' => 0, 'late'
 /** One line of all that was counted. */
 $line = function (string $when, int $longest) use (&$counts, &$kills, $master, $socket, $script): void {
     $sum = fn (string $what): int => array_sum(array_column($counts, $what));
-    $anew = ask($socket, $script, 'anew');
+    $recreated = ask($socket, $script, 'recreated');
     printf("%s: %d replies judged (%d of them that there is no row), %d wrong; %d requests lost by %d kills, %d late; the longest %d ms; "
-        . "made anew %s times; %d MB\n", $when, $sum('good') + $sum('wrong'), $sum('none'), $sum('wrong'), $sum('lost'), $kills,
-        $sum('late'), intdiv($longest, 1_000_000), is_string($anew) ? $anew : '?', memory_of($master));
+        . "recreated %s times; %d MB\n", $when, $sum('good') + $sum('wrong'), $sum('none'), $sum('wrong'), $sum('lost'), $kills,
+        $sum('late'), intdiv($longest, 1_000_000), is_string($recreated) ? $recreated : '?', memory_of($master));
 };
 while ($streams !== []) {
     [$read, $write, $except] = [$streams, null, null];

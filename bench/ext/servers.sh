@@ -74,7 +74,7 @@ see A 'product=1&change' 'A, changed' 'A stores another, here and there'
 see B product=1 'A' 'B has the old row, for as long as rows stay here'
 sleep 3
 see B product=1 'A, changed' 'that is over: B sees the change'
-see B 'product=1&delete' 'B, now' 'B deletes it here and there, and loads it anew'
+see B 'product=1&delete' 'B, now' 'B deletes it here and there, and loads it again'
 stop "${servers[@]}"
 
 echo '| ratio | ours, us | APCu, us | of |'

@@ -87,7 +87,7 @@ final class Pattern
         return $is_negated ? "[^$text]" : "[$text]";
     }
 
-    /** A sign that stands for itself, with a backslash if scripts need one. */
+    /** A literal character, with a backslash if scripts need one. */
     private static function sign(string $sign): string
     {
         $sign = $sign[0] === '\\' ? $sign[1] : $sign;

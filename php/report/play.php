@@ -86,7 +86,7 @@ function run_for(string $setting, array $first, array $last, string $input = '/d
 }
 
 /**
- * What apcu_replay tells of a cache.
+ * What apcu_replay reports about a cache.
  *
  * @param resource $output
  * @return array{array<string, int|float>, Cells} the row of a setting, and its map

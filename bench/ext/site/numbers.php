@@ -1,7 +1,7 @@
 <?php // SPDX-License-Identifier: MIT
 
 // The replies of workers to hours.php: `?key=K` returns the value under a key, `?key=K&number=N` stores one that contains
-// both, and `?anew` returns how often the cache was recreated after a kill.
+// both, and `?recreated` returns how often the cache was recreated after a kill.
 
 declare(strict_types=1);
 
@@ -35,7 +35,7 @@ function drops(): string
     return ($found[1] ?? 0) . ' ' . apcu_cache_info(true)['expunges'];
 }
 
-if (isset($_GET['anew'])) {
+if (isset($_GET['recreated'])) {
     exit(explode(' ', drops())[0]);
 }
 $key = (string) $_GET['key'];

@@ -21,7 +21,7 @@ pub(crate) fn number_in(text: &[u8], most: usize, high: u64) -> Option<u64>
     if number <= high { Some(number) } else { None }
 }
 
-// How many bytes a letter after a number stands for; 1 if it is not that of a unit.
+// The bytes of the unit that a letter after a number names; 1 if it names none.
 fn unit_of(letter: u8) -> u64
     ensures { result ≡ unit_of letter }
 {

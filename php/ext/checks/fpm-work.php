@@ -1,14 +1,14 @@
 <?php // SPDX-License-Identifier: MIT
 
 // The work of a worker of php-fpm: some five hundred calls (work.php), and whether all of them had good replies.
-// With `?anew` it returns how often the cache was recreated.
+// With `?recreated` it returns how often the cache was recreated.
 
 declare(strict_types=1);
 
 require __DIR__ . '/work.php';
 
 header('Content-Type: text/plain');
-if (isset($_GET['anew'])) {
+if (isset($_GET['recreated'])) {
     exit('ok ' . (times_remade() ?? 'none'));
 }
 mt_srand();

@@ -31,7 +31,7 @@ for ($i = 0; $i < 400 && apcu_cache_info(true)['remakes'] === 0; $i++) {
 CODE;
 run_php($code, 'error_log=/dev/null', 'apc.shm_size=8M', 'apc.record_values=0', ...$set);
 $text = taken_record($folder);
-var_dump(preg_match('/^\d+ made anew\n/m', $text));
+var_dump(preg_match('/^\d+ recreated\n/m', $text));
 preg_match_all('/^\d+(?= )/m', $text, $numbers);
 var_dump($numbers[0] === array_map(strval(...), range(0, count($numbers[0]) - 1)));
 ?>
