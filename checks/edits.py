@@ -3,17 +3,18 @@
 them, checks/edits.txt.
 
   edits.sh [CRATE..]      tries the edits of these crates, by default of all, and writes the ledger crate by crate
-  edits.sh --changed ..   tries them only in the crates that changed since the ledger was written
-  edits.sh --check        tries nothing, and names each crate whose edits have to be tried again, in a second
+  edits.sh --changed ..   tries only those whose outcome the ledger does not have for the text as it is
+  edits.sh --check        tries nothing, and names each crate with edits that have to be tried again, in a second
   edits.sh --owe ..       tries nothing, and notes that the edits of these crates are still to be tried on the text as it
                           is: --check then reports them and does not fail, until the text changes
 
-An edit turns one function into a wrong one. Its outcome depends on the crate's text and on the statements of the crates
-below it: the ledger has a sum of each, without comments. --check applies each edit too, without a proof. `rt ci` proves
-what is below, on a copy of the tree, or takes what it has kept. Then the unchanged crate is checked; if `rt check` left
-its work in out/, that takes a few seconds. Edits of different functions are tried in one check. An edit is refused if the
-check says so of its own function: one that only calls another refused function is tried again without that one. An edit
-that changes a statement, so that more than one function may fail, has a check of its own.
+An edit turns one function into a wrong one. Its outcome depends on its own text, on the crate's and on the statements of
+the crates below it: the ledger has a sum of each, without comments. So a changed edit is tried alone, and a changed crate
+has all of its edits tried. --check applies each edit too, without a proof. `rt ci` proves what is below, on a copy of the
+tree, or takes what it has kept. Then the unchanged crate is checked; if `rt check` left its work in out/, that takes a few
+seconds. Edits of different functions are tried in one check. An edit is refused if the check says so of its own function:
+one that only calls another refused function is tried again without that one. An edit that changes a statement, so that
+more than one function may fail, has a check of its own.
 
 --jobs N has N crates tried at the same time, by default one a processor, or fewer if memory is short.
 Statuses: 0 if each edit is refused and the ledger says so, 1 if one is not or the ledger is old, 2 if an edit
@@ -39,9 +40,8 @@ LEDGER = f"{HOME}/checks/edits.txt"
 SELF = os.path.basename(sys.argv[0]).replace(".py", ".sh")
 HEAD = """\
 # What came of the edits in crates/*/more-edits, as checks/edits.sh tried them. It writes this file; .ci/run compares the sums.
-# A crate's line: a sum of its own text and edits, one of the statements of the crates below it, and how many edits were refused,
-# or `untried` if they are still to be tried on that text.
-# An edit's line: the function that the check refused, and the goals that failed there.
+# A crate's line: a sum of its own text, one of the statements of the crates below it, and how many of its edits were refused.
+# An edit's line: a sum of its text, the function that the check refused, and the goals that failed there.
 """
 # What a check takes of memory at the most, in kB.
 NEED = 3_500_000
@@ -50,6 +50,8 @@ PARTS = ("src", "specs", "proofs")
 REFUSED, NAME_GONE, AT_LIMIT = "refused", "refused, but only since a proof names what the edit removes", "refused at a limit of the prover"
 PROVED, BAD, UNTRIED = "NOT REFUSED", "BAD EDIT", "NOT TRIED"
 FAULTS = (PROVED, BAD, UNTRIED)
+# The outcome of an edit that --owe notes.
+OWED = "still to be tried"
 
 
 # --- what the repository has ---
@@ -147,12 +149,19 @@ def functions(text):
     return found
 
 
+USE = re.compile(r"^(?:ghost )?use [^;]*;\n?", re.MULTILINE)
+
+
 def statements(text):
-    """The file without comments, without the bodies of functions, and without the functions that no other crate sees."""
+    """The file without comments and blank lines, without the bodies of functions, without the functions that no other
+    crate sees, and without the names that only these use."""
     lines, hidden = text.split("\n"), set()
     for each in functions(text):
         hidden.update(range(each.body + 1, each.end) if each.is_public else range(each.at, each.end + 1))
-    return "\n".join(line for at, line in enumerate(lines) if at not in hidden and not line.lstrip().startswith("//"))
+    kept = [line for at, line in enumerate(lines) if at not in hidden and line.strip() and not line.lstrip().startswith("//")]
+    text, inside = "\n".join(kept), set(re.findall(r"\w+", "\n".join(lines[at] for at in hidden)))
+    shown = set(re.findall(r"\w+", USE.sub("", text)))
+    return USE.sub(lambda use: re.sub(r"\w+", lambda it: "" if it[0] in inside - shown else it[0], use[0]), text)
 
 
 # --- sums ---
@@ -183,82 +192,106 @@ def stated(name, known={}):
 
 
 def sums(name, crates):
+    """A sum of the crate's own text, without its edits, and one of the statements of the crates below it."""
     own = [repr(crates[name])]
-    for path, file in texts(name, *PARTS, "more-edits").items():
-        if path.endswith((".rt", ".antt", ".edit")):
+    for path, file in texts(name, *PARTS).items():
+        if path.endswith((".rt", ".antt")):
             own += [path, bare(read(file), path)]
     return sum_of(*own), sum_of(*[f"{dep} {stated(dep)}" for dep in below(name, crates)])
 
 
+def edit_name(path):
+    return os.path.basename(path)[: -len(".edit")]
+
+
+def edit_sums(name):
+    """The sum of each edit of the crate, by its name."""
+    return {edit_name(path): sum_of(bare(read(path), path)) for path in edits_of(name)}
+
+
 # --- the ledger ---
+
+# A crate's two sums, and of each edit its sum and its outcome.
+Row = collections.namedtuple("Row", "own below edits")
 
 
 def read_ledger():
-    """The lines of each crate, the crate's own first."""
     rows = {}
     if os.path.isfile(LEDGER):
         for line in read(LEDGER).split("\n"):
-            if line and not line.startswith("#"):
-                rows.setdefault(re.split(r"[ /]", line)[0], []).append(line)
+            first, _, rest = line.partition(" ")
+            name, is_edit, edit = first.partition("/")
+            if is_edit:
+                total, _, outcome = rest.partition(" ")
+                rows[name].edits[edit] = total, outcome
+            elif line and name != "#":
+                said = dict(word.partition("=")[::2] for word in rest.split())
+                rows[name] = Row(said.get("own"), said.get("below"), {})
     return rows
 
 
 def write_ledger(rows):
+    lines = []
+    for name, row in sorted(rows.items()):
+        refused = sum(not outcome.startswith((*FAULTS, OWED)) for _, outcome in row.edits.values())
+        lines.append(f"{name} own={row.own} below={row.below} edits={len(row.edits)} refused={refused}\n")
+        lines += [f"{name}/{edit} {total} {outcome}\n" for edit, (total, outcome) in sorted(row.edits.items())]
     with open(f"{LEDGER}.new", "w", encoding="utf-8") as file:
-        file.write(HEAD + "".join(f"{line}\n" for name in sorted(rows) for line in rows[name]))
+        file.write(HEAD + "".join(lines))
     os.replace(f"{LEDGER}.new", LEDGER)
 
 
-def lines_of(name, crates, outcomes):
-    own, under = sums(name, crates)
-    refused = sum(kind not in FAULTS for kind, _ in outcomes.values())
-    lines = [f"{name} own={own} below={under} edits={len(outcomes)} refused={refused}"]
-    for edit, (kind, where) in sorted(outcomes.items()):
-        lines.append(f"{name}/{edit} {kind}{': ' if where else ''}{where}")
-    return lines
-
-
-def why_old(name, crates, rows):
-    """Why the crate's edits have to be tried, or nothing."""
+def left_of(name, crates, rows):
+    """The edits of the crate whose outcome the ledger does not have for the text as it is, and why."""
+    found = edit_sums(name)
     if name not in rows:
-        return "they were never tried"
-    said = dict(word.partition("=")[::2] for word in rows[name][0].split()[1:])
+        return set(found), "as they never were"
     own, under = sums(name, crates)
-    if said.get("own") != own:
-        return "the crate has changed since they were tried"
-    if said.get("below") != under:
-        return "what it reads of the crates below has changed since they were tried"
-    return None
+    if rows[name].own != own:
+        return set(found), "as the crate has changed since they were tried"
+    if rows[name].below != under:
+        return set(found), "as what it reads of the crates below has changed since they were tried"
+    left = {edit for edit, total in found.items() if rows[name].edits.get(edit, ("",))[0] != total}
+    return left, f"as these are new or have changed: {', '.join(sorted(left))}"
 
 
-def is_owed(name, rows):
-    return name in rows and rows[name][0].endswith(" untried")
+def owed(name, rows):
+    return {edit for edit, (_, outcome) in rows[name].edits.items() if outcome == OWED} if name in rows else set()
+
+
+def noted(name, crates, rows, outcomes):
+    """The crate's row with these outcomes, and with the earlier ones of its other edits."""
+    found, (left, _) = edit_sums(name), left_of(name, crates, rows)
+    kept = {edit: rows[name].edits[edit] for edit in found if edit not in left}
+    return Row(*sums(name, crates), {**kept, **{edit: (found[edit], outcome) for edit, outcome in outcomes.items()}})
 
 
 def owe(names, crates):
-    """Notes the crates whose edits were not tried on this text."""
+    """Notes the edits that were not tried on this text."""
     rows = read_ledger()
     for name in names:
-        if why_old(name, crates, rows):
-            own, under = sums(name, crates)
-            rows[name] = [f"{name} own={own} below={under} edits={len(edits_of(name))} untried"]
+        left, _ = left_of(name, crates, rows)
+        rows[name] = noted(name, crates, rows, dict.fromkeys(left, OWED))
     write_ledger(rows)
 
 
 def check(crates, names):
     """Compares the ledger with the tree."""
-    rows, old, missed = read_ledger(), [], 0
+    rows, old, missed, gone = read_ledger(), [], 0, 0
     for name in names:
-        why = why_old(name, crates, rows)
-        if why:
-            print(f"{name}: its edits have to be tried, as {why}")
+        left, why = left_of(name, crates, rows)
+        if left:
+            print(f"{name}: its edits have to be tried, {why}")
             old.append(name)
-            continue
-        if is_owed(name, rows):
-            print(f"{name}: {len(edits_of(name))} edits are still to be tried: checks/edits.sh {name}")
-        for line in rows[name][1:]:
-            if re.match(rf"\S+ ({'|'.join(FAULTS)})", line):
-                print(line)
+        still = owed(name, rows) - left
+        if still:
+            print(f"{name}: {len(still)} of its edits {'is' if len(still) == 1 else 'are'} still to be tried: checks/edits.sh --changed {name}")
+        for edit, (_, outcome) in (rows[name].edits if name in rows else {}).items():
+            if not os.path.isfile(f"{HOME}/crates/{name}/more-edits/{edit}.edit"):
+                print(f"{name}/{edit} is in checks/edits.txt, and no longer in more-edits")
+                gone += 1
+            elif edit not in left and outcome.startswith(FAULTS):
+                print(f"{name}/{edit} {outcome}")
                 missed += 1
         for path in edits_of(name):
             _, why = applied(path, name)
@@ -268,11 +301,9 @@ def check(crates, names):
     lost = [name for name in rows if name not in names]
     for name in lost:
         print(f"{name}: checks/edits.txt has edits that are no longer there")
-    if old:
-        print(f"run: checks/edits.sh {' '.join(old)}")
-    if lost and not old:
-        print("run: checks/edits.sh --changed")
-    failed = len(old) + missed + len(lost)
+    if old or lost or gone:
+        print(f"run: checks/edits.sh {' '.join(['--changed', *old])}")
+    failed = len(old) + missed + len(lost) + gone
     print(f"{len(names) - len(old)} passed, {failed} failed")
     return failed > 0
 
@@ -339,7 +370,7 @@ def placed(path, name, printed):
             found.add(printed_name)
         elif not is_import(file, lines[file, at]):
             is_alone = True
-    return Edit(os.path.basename(path)[: -len(".edit")], lines, frozenset(found), is_alone), None
+    return Edit(edit_name(path), lines, frozenset(found), is_alone), None
 
 
 def is_import(file, line):
@@ -529,11 +560,11 @@ class Trial:
         outcomes, waiting = {}, []
         why = self.begin(from_nothing)
         if why:
-            return {os.path.basename(path)[: -len(".edit")]: (UNTRIED, why) for path in paths}
+            return {edit_name(path): (UNTRIED, why) for path in paths}
         for path in paths:
             edit, why = placed(path, self.name, self.printed)
             if why:
-                outcomes[os.path.basename(path)[: -len(".edit")]] = BAD, why
+                outcomes[edit_name(path)] = BAD, why
             else:
                 waiting.append(edit)
         while waiting:
@@ -675,9 +706,9 @@ def size(name):
     return sum(os.path.getsize(path) for path in texts(name, *PARTS).values())
 
 
-def try_crates(names, crates, jobs):
-    """Tries the edits of these crates side by side, the largest first, and writes the ledger as each ends."""
-    home_kit, tried, missed, began = kit(), 0, [], time.time()
+def try_crates(chosen, crates, jobs):
+    """Tries these edits of each crate, crates side by side and the largest first, and writes the ledger as each ends."""
+    names, home_kit, tried, missed, began = list(chosen), kit(), 0, [], time.time()
     jobs = max(1, min(jobs or len(os.sched_getaffinity(0)), free() // NEED))
     with tempfile.TemporaryDirectory(prefix="edits-") as room:
         # rt runs programs as the user `nobody`, which has to reach the folders below.
@@ -686,12 +717,12 @@ def try_crates(names, crates, jobs):
 
         def one(name):
             trial = Trial(name, crates, room, home_kit)
-            before, start = sums(name, crates), time.time()
-            outcomes = trial.try_all(edits_of(name))
+            before, start = (sums(name, crates), edit_sums(name)), time.time()
+            outcomes = trial.try_all([path for path in edits_of(name) if edit_name(path) in chosen[name]])
             shutil.rmtree(trial.room, ignore_errors=True)
             return name, outcomes, before, trial, time.time() - start
 
-        order = sorted(names, key=lambda it: -size(it) * (4 + len(edits_of(it))))
+        order = sorted(names, key=lambda it: -size(it) * (4 + len(chosen[it])))
         with ThreadPoolExecutor(jobs) as pool:
             for ended in as_completed([pool.submit(one, name) for name in order]):
                 name, outcomes, before, trial, took = ended.result()
@@ -702,12 +733,12 @@ def try_crates(names, crates, jobs):
                     print(f"  {name}/{edit} {kind}: {where}", flush=True)
                     missed.append(kind)
                 tried += len(outcomes)
-                if sums(name, crates) != before:
+                if (sums(name, crates), edit_sums(name)) != before:
                     print(f"  {name} changed meanwhile, so the ledger has not what came of its edits")
                     missed.append(UNTRIED)
                 elif all(kind != UNTRIED for kind, _ in outcomes.values()):
-                    rows = read_ledger()
-                    write_ledger({**rows, name: lines_of(name, crates, outcomes)})
+                    rows, said = read_ledger(), {edit: ": ".join(filter(None, it)) for edit, it in outcomes.items()}
+                    write_ledger({**rows, name: noted(name, crates, rows, said)})
     print(f"{tried - len(missed)} passed, {len(missed)} failed, {time.time() - began:.0f} s")
     return 2 if UNTRIED in missed else 1 if missed else 0
 
@@ -731,18 +762,20 @@ def main():
     if given.owe:
         owe(names, crates)
         return 0
-    rows = read_ledger()
+    chosen = {name: set(edit_sums(name)) for name in names}
     if given.changed:
-        names = [name for name in names if why_old(name, crates, rows) or is_owed(name, rows)]
-        if set(rows) - set(every):
-            write_ledger({name: rows[name] for name in rows if name in every})
-    if not names:
+        rows = read_ledger()
+        kept = {name: row._replace(edits={edit: it for edit, it in row.edits.items() if edit in edit_sums(name)}) for name, row in rows.items()}
+        write_ledger({name: row for name, row in kept.items() if name in every})
+        chosen = {name: left_of(name, crates, rows)[0] | owed(name, rows) for name in names}
+        chosen = {name: edits for name, edits in chosen.items() if edits}
+    if not chosen:
         print("0 passed, 0 failed: no crate with edits has changed")
         return 0
     for it in (signal.SIGINT, signal.SIGTERM, signal.SIGHUP):
         signal.signal(it, end_all)
     try:
-        return try_crates(names, crates, given.jobs)
+        return try_crates(chosen, crates, given.jobs)
     except Stopped:
         say("ended early; what was tried is in the ledger")
         return 130

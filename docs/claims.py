@@ -196,12 +196,13 @@ def ledger():
     """How many edits the ledger has as tried on this text, and how many it notes as still to be tried."""
     with open("checks/edits.txt", encoding="utf-8") as file:
         lines = [line for line in file.read().split("\n") if line and line[0] != "#"]
-    tried = [line for line in lines if re.match(r"\w+/\w+ refused", line)]
+    tried = [line for line in lines if re.match(r"\w+/\w+ \w+ refused", line)]
     named = [line for line in tried if "only since a proof names" in line]
-    owed = [re.match(r"(\w+) .* edits=(\d+) untried$", line) for line in lines if line.endswith(" untried")]
-    said = f"Tried on the current text, and refused: {len(tried)} (`checks/edits.txt`), of which {len(named)} only because a proof names what the edit removes."
+    owed = [line for line in lines if line.endswith(" still to be tried")]
+    said = f"Tried on the current text, and refused: {len(tried)} (`checks/edits.txt`)"
+    said += f", of which {len(named)} only because a proof names what the edit removes." if named else ", each because a goal fails."
     if owed:
-        said += f" Not tried yet: {sum(int(it[2]) for it in owed)}, of {len(owed)} crates, which `checks/edits.sh --check` lists."
+        said += f" Not tried yet: {len(owed)}, which `checks/edits.sh --check` lists."
     return said
 
 
