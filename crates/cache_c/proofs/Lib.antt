@@ -1,6 +1,5 @@
 pub mod HeldRows
 pub mod Lookups
-pub mod RefusedSeats
 pub mod RowLists
 pub mod Seats
 pub mod Standing

@@ -1,68 +1,15 @@
-//! Keys as words, and the slot of a key's hash.
+//! The hash of a key, and its slot.
 
-ghost use Rattle.std.specs.Prelude.{◌≡◌, ℕ, ◌+◌, ◌/◌, ◌%◌, ◌^◌, ◌<◌, ◌≤◌, List, length};
-ghost use Rattle.std.specs.Prelude.{slice_index};
-ghost use Rattle.byteorder.specs.Endian.{little_number};
+ghost use Rattle.std.specs.Prelude.{◌≡◌, ℕ, ◌+◌, ◌/◌, ◌%◌, ◌<◌, ◌≤◌, List, length, slice_index};
 ghost use Rattle.seg_words.specs.Kept.{Kept};
 ghost use Rattle.seg_words.specs.Blocks.{IsTold};
 ghost use Rattle.php_graph.specs.Numbers.{hash_of};
 ghost use Rattle.entry_slots.specs.EntryWords.{IsEntryKey};
 ghost use Rattle.seg_words.specs.Layout.{words_in};
-ghost use Rattle.value_image.specs.PackedBytes.{word_at};
 
 use crate::lower::lower_laws;
-use byteorder::{ByteOrder, LittleEndian};
 use php_graph::{HASH_START, TOP_BIT, hash_step};
 use seg_words::WordsIn;
-
-// The number of up to three bytes, the first lowest.
-fn few_bytes(bytes: &[u8]) -> u64
-    requires { length bytes.now < 4 }
-    ensures number { result ≡ little_number 4 bytes.now }
-    ensures small { result < 2 ^ 24 }
-{
-    if bytes.is_empty() {
-        return 0;
-    }
-    if bytes.len() == 1 {
-        return u64::from(bytes[0]);
-    }
-    let low = u64::from(LittleEndian::read_u16(bytes));
-    if bytes.len() == 2 {
-        return low;
-    }
-    low + u64::from(bytes[2]) * 0x1_0000
-}
-
-// The word of fewer than eight bytes. Gathering them into eight bytes first takes longer than
-// reading four of them, two and one.
-fn short_word(bytes: &[u8]) -> u64
-    requires { length bytes.now < 8 }
-    ensures { result ≡ little_number 8 bytes.now }
-{
-    if bytes.len() < 4 {
-        return few_bytes(bytes);
-    }
-    let low = u64::from(LittleEndian::read_u32(bytes));
-    low + few_bytes(&bytes[4..]) * 0x1_0000_0000
-}
-
-// The word of a key's eight bytes from byte `8 * i` on, the first byte lowest; past the end they
-// are 0. If fewer are left, the last eight bytes of the key are read at once, and those before are
-// shifted out.
-pub(crate) fn key_word(key: &[u8], i: u32) -> u64
-    requires { i < words_in (length key.now) }
-    ensures { result ≡ word_at key.now i }
-{
-    let rest = &key[8 * i as usize..];
-    if rest.len() >= 8 {
-        return LittleEndian::read_u64(rest);
-    }
-    if key.len() < 8 {
-        return short_word(rest);
-    }
-    LittleEndian::read_u64(&key[key.len() - 8..]) >> (64 - 8 * rest.len())
-}
 
 // The word that has byte `i` of those from a place on. Unless that byte is the first of a word, it
 // is the word of the byte before, and is not loaded again.

@@ -15,9 +15,9 @@ ghost use Rattle.entry_slots.specs.Finding.{HasEntry, HasSlot};
 ghost use Rattle.entry_slots.specs.Standing.{entries};
 
 use crate::head::{CTIME, NEXT, TTL, has_passed};
-use crate::keys::key_word;
 use crate::lower::lower_laws;
 use seg_words::{HEAD_WORDS, KEY_LENGTH, PIN_COUNT, WordsIn, words_in};
+use value_image::byte_word;
 
 // The words of a block before its pin count.
 pub(crate) fn first_words<S: WordsIn>(seg: &mut S, at: u32) -> [u64; 11]
@@ -69,7 +69,7 @@ pub(crate) fn has_key_at<S: WordsIn>(seg: &mut S, at: u32, key: &[u8]) -> bool
         return false;
     }
     for i in 0..words_in(key.len() as u32) {
-        if seg.load(at + HEAD_WORDS + i) != key_word(key, i) {
+        if seg.load(at + HEAD_WORDS + i) != byte_word(key, i) {
             return false;
         }
     }

@@ -1,7 +1,7 @@
 use Rattle.std.proofs.Common.{sym, ap, ◌∙◌, ◌&&◌}
 use Rattle.std.proofs.lemmas.Bool.{lt-ltb}
 use Rattle.seg_words.specs.Windows.{has}
-use Rattle.cache_c.proofs.RefusedSeats.{any_has}
+use Rattle.seg_words.proofs.RefusedPlaces.{any_has}
 use Rattle.cache_c.proofs.seat_words.is_named.Goals as goal
 
 pub returns-then-at-gt0 : goal.returns-then-at-gt0

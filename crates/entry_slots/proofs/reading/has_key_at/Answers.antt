@@ -54,15 +54,15 @@ load-requires-in-loop-i g c =
     let k = told_key r.0 r.1 c.args.at c.loop-i.i (length c.args.key.now) r.2 (sym c.if-load-key.false ∙ (read ∙ key_length_at r.1 c.args.at r.2)) (omega (arith, c.words_in-i-end.ensures)) in
     rw c.loop-i.invariant.kept.words k.0
 
-pub returns-then-load-key_word-clause-is : goal.returns-then-load-key_word-clause-is
-returns-then-load-key_word-clause-is g c = λ e row has is.
+pub returns-then-load-byte_word-clause-is : goal.returns-then-load-byte_word-clause-is
+returns-then-load-byte_word-clause-is g c = λ e row has is.
     let place = is.place in
     let home = home_listed row has.stand is.there in
     let read = c.load.ensures.word (told_at home c.args.at 2 place (omega arith) (omega arith)) in
     let lt : c.loop-i.i < words_in (length c.args.key.now) = omega (arith, c.words_in-i-end.ensures, c.loop-i-test.true) in
     let k = told_key row home c.args.at c.loop-i.i (length c.args.key.now) place (sym c.if-load-key.false ∙ (read ∙ key_length_at home c.args.at place)) lt in
     let word = read_along (g.S.WordsIn.words c.args.seg.now) (g.S.WordsIn.words c.loop-i.seg) (g.S.WordsIn.aside c.args.seg.now) (g.S.WordsIn.aside c.loop-i.seg) (c.args.at + 12 + c.loop-i.i) c.load-in-loop-i.result c.loop-i.invariant.kept.words c.loop-i.invariant.kept.aside k.1 c.load-in-loop-i.ensures.word in
-    differs_at c.lower_laws.ensures row c.args.key.now home c.args.at c.loop-i.i c.key_word.result place lt (λ same. c.if-load-key_word.true (word ∙ (same ∙ sym c.key_word.ensures)))
+    differs_at c.lower_laws.ensures row c.args.key.now home c.args.at c.loop-i.i c.byte_word.result place lt (λ same. c.if-load-byte_word.true (word ∙ (same ∙ sym c.byte_word.ensures)))
 
 pub loop-i-preserved : goal.loop-i-preserved
 loop-i-preserved g c =
@@ -71,7 +71,7 @@ loop-i-preserved g c =
     let k = told_key r.0 r.1 c.args.at c.loop-i.i (length c.args.key.now) r.2 (sym c.if-load-key.false ∙ (read ∙ key_length_at r.1 c.args.at r.2)) (omega (arith, c.words_in-i-end.ensures)) in
     let word = read_along (g.S.WordsIn.words c.args.seg.now) (g.S.WordsIn.words c.loop-i.seg) (g.S.WordsIn.aside c.args.seg.now) (g.S.WordsIn.aside c.loop-i.seg) (c.args.at + 12 + c.loop-i.i) c.load-in-loop-i.result c.loop-i.invariant.kept.words c.loop-i.invariant.kept.aside k.1 c.load-in-loop-i.ensures.word in
     record {
-      same = more (λ j. slice_index (g.S.WordsIn.words c.args.seg.now) (c.args.at + 12 + j) ≡ word_at c.args.key.now j) c.loop-i.i c.loop-i.invariant.same (sym word ∙ (c.if-load-key_word.false ∙ c.key_word.ensures));
+      same = more (λ j. slice_index (g.S.WordsIn.words c.args.seg.now) (c.args.at + 12 + j) ≡ word_at c.args.key.now j) c.loop-i.i c.loop-i.invariant.same (sym word ∙ (c.if-load-byte_word.false ∙ c.byte_word.ensures));
       kept = record { words = c.load-in-loop-i.ensures.words ∙ c.loop-i.invariant.kept.words; aside = c.load-in-loop-i.ensures.aside ∙ c.loop-i.invariant.kept.aside; rest = c.load-in-loop-i.ensures.rest ∙ c.loop-i.invariant.kept.rest };
     }
 

@@ -3,7 +3,7 @@ use Rattle.std.proofs.lemmas.Bool.{and_parts}
 use Rattle.std.specs.List.{count_by}
 use Rattle.std.specs.Prelude.{bit_or}
 use Rattle.seg_words.specs.Windows.{has, is_named, holders}
-use Rattle.cache_c.proofs.RefusedSeats.{frees_none, room_left, marked, one_more}
+use Rattle.seg_words.proofs.RefusedPlaces.{frees_none, room_left, marked, one_more}
 use Rattle.cache_c.proofs.Seats.{all_met}
 use Rattle.cache_c.proofs.seat_words.SeatWordsSegment.probe.Goals as goal
 

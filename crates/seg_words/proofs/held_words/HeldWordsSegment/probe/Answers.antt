@@ -3,7 +3,7 @@ use Rattle.std.proofs.lemmas.Grind.{common_steps}
 use Rattle.std.proofs.lemmas.Bool.{and_parts, ltb-true}
 use Rattle.std.specs.List.{count_by}
 use Rattle.seg_words.specs.Windows.{has, is_named}
-use Rattle.seg_words.proofs.WorkerWindows.{frees_none, room_left, marked, one_more}
+use Rattle.seg_words.proofs.RefusedPlaces.{frees_none, room_left, marked, one_more}
 use Rattle.seg_words.proofs.held_words.HeldWordsSegment.probe.Goals as goal
 
 pub returns-then-not-is_named-clause-free : goal.returns-then-not-is_named-clause-free
