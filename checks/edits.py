@@ -149,19 +149,26 @@ def functions(text):
     return found
 
 
-USE = re.compile(r"^(?:ghost )?use [^;]*;\n?", re.MULTILINE)
+USE = re.compile(r"^((?:ghost )?use )([^;{]*)(\{[^;{}]*\})?;\n?", re.MULTILINE)
+
+
+def has_name(text, name):
+    """Whether the text has the name, or for one such as ◌+◌ its sign."""
+    sign = name.split()[-1].replace("◌", "")
+    return bool(re.search(rf"\b{sign}\b", text)) if re.fullmatch(r"\w+", sign) else sign in text
 
 
 def statements(text):
-    """The file without comments and blank lines, without the bodies of functions, without the functions that no other
-    crate sees, and without the names that only these use."""
-    lines, hidden = text.split("\n"), set()
+    """The file without comments and blank lines, without the bodies of functions and without the functions that no other
+    crate sees. The imported names come first, one by one, and only those that the rest has."""
+    lines, hidden, names = text.split("\n"), set(), []
     for each in functions(text):
         hidden.update(range(each.body + 1, each.end) if each.is_public else range(each.at, each.end + 1))
-    kept = [line for at, line in enumerate(lines) if at not in hidden and line.strip() and not line.lstrip().startswith("//")]
-    text, inside = "\n".join(kept), set(re.findall(r"\w+", "\n".join(lines[at] for at in hidden)))
-    shown = set(re.findall(r"\w+", USE.sub("", text)))
-    return USE.sub(lambda use: re.sub(r"\w+", lambda it: "" if it[0] in inside - shown else it[0], use[0]), text)
+    kept = "\n".join(line for at, line in enumerate(lines) if at not in hidden and line.strip() and not line.lstrip().startswith("//"))
+    rest = USE.sub("", kept)
+    for word, path, group in USE.findall(kept):
+        names += [f"{word}{path}{name.strip()}" for name in group.strip("{}").split(",") if name.strip()] or [word + path]
+    return "\n".join([*sorted(name for name in names if has_name(rest, re.split(r"::|\.", name)[-1])), rest])
 
 
 # --- sums ---
