@@ -19,13 +19,6 @@ one_top m s t low high low' high' = elim (cases_order s t) [
   | inr (inr more) ↦ absurd (omega (arith, pow_mono {i = t + 1} {j = s} (omega arith)))
 ]
 
-pub none_marked : (flag : ℕ → Bool) → IsMarked flag 0 0
-none_marked flag = record {
-  below = omega arith;
-  none = λ _ j inside. absurd (omega arith);
-  top = λ t low high. absurd (omega (arith, pow_pos t));
-}
-
 pub one_marked : (flag : ℕ → Bool) (k m bit : ℕ) → bit ≡ 2 ^ k → IsMarked flag k m → flag k ≡ true → IsMarked flag (k + 1) (m + bit)
 one_marked flag k m bit is marked on =
     let below : m < 2 ^ k = marked.below in

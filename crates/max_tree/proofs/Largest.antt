@@ -1,5 +1,5 @@
 -- The largest number of a list.
-use Rattle.std.proofs.Common.{◌≡◌, ℕ, zero, suc, ◌<◌, ◌≤◌, List, [], ◌∷◌, length, get_or, arith}
+use Rattle.std.proofs.Common.{ℕ, zero, suc, ◌<◌, ◌≤◌, List, [], ◌∷◌, length, get_or, arith}
 use Rattle.max_tree.specs.Pages.{largest}
 
 pub largest_bound : (xs : List ℕ) (i : ℕ) → get_or xs i 0 ≤ largest xs
@@ -12,6 +12,3 @@ largest_least [] m h = omega arith
 largest_least (x ∷ xs) m h =
     let first : x ≤ m = h 0 (omega arith) in
     omega (arith, largest_least xs m (λ i inside. h (suc i) (omega arith)))
-
-pub largest_is : (xs : List ℕ) (m : ℕ) → ((i : ℕ) → get_or xs i 0 ≤ m) → (k : ℕ) → get_or xs k 0 ≡ m → m ≡ largest xs
-largest_is xs m bound k there = omega (arith, largest_bound xs k, largest_least xs m (λ i inside. bound i))

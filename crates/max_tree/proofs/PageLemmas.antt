@@ -1,15 +1,15 @@
 -- Pages of numbers and their tops.
-use Rattle.std.proofs.Common.{◌≡◌, ℕ, ◌+◌, ◌-◌, ◌*◌, ◌/◌, ◌%◌, ◌^◌, ◌<◌, ◌≤◌, Bool, false, ltb, true, List, length, get_or, set, take, drop, Option, Some, None, MatchOption, refl, sym, ap, ◌∙◌, subst, inl, inr, arith, get_or-drop}
+use Rattle.std.proofs.Common.{◌≡◌, ℕ, ◌+◌, ◌-◌, ◌*◌, ◌/◌, ◌%◌, ◌^◌, ◌<◌, ◌≤◌, Bool, false, ltb, true, List, length, get_or, set, take, drop, replicate, Option, Some, None, MatchOption, refl, sym, ap, ◌∙◌, inl, inr, arith, get_or-drop}
 use Rattle.std.specs.Prelude.{nat_le}
 use Rattle.std.specs.List.{position, position_or_len}
 use Rattle.std.proofs.lemmas.Bool.{cases_lt, cases_eq, lt-ltb, leb-true, leb-false, le-leb, lt-leb}
 use Rattle.std.proofs.lemmas.List.Sums.{fails_before_first}
 use Rattle.std.proofs.lemmas.List.Quantifiers.{position-Some}
-use Rattle.std.proofs.lemmas.List.{get_or-take, length-take, length-set, get_or-set_same, get_or-set_other, drop-set-lt, take-set-le, drop-set-add, get_or_past}
+use Rattle.std.proofs.lemmas.List.{get_or-take, length-take, length-set, get_or-set_same, get_or-set_other, drop-set-lt, take-set-le, drop-set-add, get_or_past, length-replicate}
 use Rattle.max_tree.specs.Pages.{largest, page, AreTops, IsPaged}
 use Rattle.max_tree.specs.declared.row.TheConstants.{PAGE}
 use Rattle.max_tree.proofs.Largest.{largest_bound, largest_least}
-use Rattle.max_tree.proofs.Positions.{position_found, position_none}
+use Rattle.max_tree.proofs.Positions.{position_found, position_none, zero_at}
 
 pub page_at : (xs : List ℕ) (k j : ℕ) → j < PAGE → get_or (page xs k) j 0 ≡ get_or xs (PAGE * k + j) 0
 page_at xs k j inside = get_or-take PAGE (drop (PAGE * k) xs) j 0 inside ∙ get_or-drop (PAGE * k) xs j 0
@@ -17,13 +17,15 @@ page_at xs k j inside = get_or-take PAGE (drop (PAGE * k) xs) j 0 inside ∙ get
 pub page_length : (xs : List ℕ) (k : ℕ) → length (page xs k) ≤ PAGE
 page_length xs k = omega (arith, length-take PAGE (drop (PAGE * k) xs))
 
--- no number is larger than the top of its page
+-- no number is larger than the largest one of its own page
+pub own_page : (xs : List ℕ) (p : ℕ) → get_or xs p 0 ≤ largest (page xs (p / PAGE))
+own_page xs p =
+    let place : PAGE * (p / PAGE) + p % PAGE ≡ p = omega arith in
+    let same : get_or (page xs (p / PAGE)) (p % PAGE) 0 ≡ get_or xs p 0 = page_at xs (p / PAGE) (p % PAGE) (omega arith) ∙ ap (λ (n : ℕ). get_or xs n 0) place in
+    omega (arith, same, largest_bound (page xs (p / PAGE)) (p % PAGE))
+
 pub below_top : (xs tops : List ℕ) → AreTops xs tops → (i : ℕ) → get_or xs i 0 ≤ get_or tops (i / PAGE) 0
-below_top xs tops are i =
-    let k = i / PAGE in
-    let place : PAGE * k + i % PAGE ≡ i = omega arith in
-    let same : get_or (page xs k) (i % PAGE) 0 ≡ get_or xs i 0 = page_at xs k (i % PAGE) (omega arith) ∙ ap (λ (n : ℕ). get_or xs n 0) place in
-    omega (arith, are k, same, largest_bound (page xs k) (i % PAGE))
+below_top xs tops are i = omega (arith, are (i / PAGE), own_page xs i)
 
 -- a page whose numbers are all at most m has no larger top
 pub top_least : (xs tops : List ℕ) → AreTops xs tops → (k m : ℕ) → ((i : ℕ) → PAGE * k ≤ i → i < PAGE * k + PAGE → i < length xs → get_or xs i 0 ≤ m) → get_or tops k 0 ≤ m
@@ -55,15 +57,19 @@ page_before xs k p v past =
     ap (take PAGE) moved ∙ take-set-le PAGE (drop (PAGE * k) xs) (p - PAGE * k) v (omega arith)
 
 -- zeros are in pages of zeros
-pub none_paged : (xs tops : List ℕ) → length xs < 2 ^ 32 → PAGE < length xs → length tops ≡ (length xs + (PAGE - 1)) / PAGE → ((i : ℕ) → get_or xs i 0 ≡ 0) → ((k : ℕ) → get_or tops k 0 ≡ 0) → IsPaged xs tops
-none_paged xs tops short many count none zeros = record {
-  short = short;
-  many = many;
-  tops_count = count;
-  tops_are = λ k.
-      let low : largest (page xs k) ≤ 0 = largest_least (page xs k) 0 (λ j inside. omega (arith, page_at xs k j (omega (arith, page_length xs k)), none (PAGE * k + j))) in
-      omega (arith, zeros k);
-}
+pub zero_paged : (n : ℕ) → PAGE < n → n < 2 ^ 32 → IsPaged (replicate n 0) (replicate ((n + (PAGE - 1)) / PAGE) 0)
+zero_paged n many short =
+    let xs = replicate {A = ℕ} n 0 in
+    let m = (n + (PAGE - 1)) / PAGE in
+    let count = length-replicate {A = ℕ} n 0 in
+    record {
+      short = omega (arith, count);
+      many = omega (arith, count);
+      tops_count = omega (arith, count, length-replicate {A = ℕ} m 0);
+      tops_are = λ k.
+          let low : largest (page xs k) ≤ 0 = largest_least (page xs k) 0 (λ j inside. omega (arith, page_at xs k j (omega (arith, page_length xs k)), zero_at n (PAGE * k + j))) in
+          omega (arith, low, zero_at m k);
+    }
 
 pub room_of : (xs tops : List ℕ) → IsPaged xs tops → length xs ≤ PAGE * length tops
 room_of xs tops paged = let count = paged.tops_count in omega arith
@@ -136,25 +142,6 @@ first_is xs tops n k (Some at) paged some found none there =
       | inl earlier ↦ lt-leb n _ (omega (arith, below_top xs tops paged.tops_are i, leb-false n _ (first.2 (i / PAGE) (omega arith))))
       | inr here ↦ lt-leb n _ (none i here before)
     ]))
-
--- the same, of numbers that were read as a slice
-pub first_seen : (xs seen view tops : List ℕ) (n k : ℕ) (r : Option ℕ) → seen ≡ xs → xs ≡ view → IsPaged xs tops → 1 ≤ n → position (λ value. nat_le n value) tops ≡ Some k
-    → MatchOption r ((i : ℕ) → PAGE * k ≤ i → i < PAGE * k + PAGE → i < length seen → get_or seen i 0 < n) (λ at. (i : ℕ) → PAGE * k ≤ i → i < at → get_or seen i 0 < n)
-    → MatchOption r (Unit {0}) (λ at. (PAGE * k ≤ at) × (at < PAGE * k + PAGE) × (at < length seen) × (n ≤ get_or seen at 0))
-    → r ≡ position (λ value. nat_le n value) view
-first_seen xs seen view tops n k r same shown paged some found none there =
-    let paged' : IsPaged seen tops = subst (λ (ys : List ℕ). IsPaged ys tops) (sym same) paged in
-    first_is seen tops n k r paged' some found none there ∙ ap (λ (ys : List ℕ). position (λ value. nat_le n value) ys) (same ∙ shown)
-
--- the page of a top that is large enough begins among the numbers
-pub page_inside : (xs tops : List ℕ) (n k : ℕ) → IsPaged xs tops → 1 ≤ n → position (λ value. nat_le n value) tops ≡ Some k → PAGE * k ≤ length xs
-page_inside xs tops n k paged some found =
-    let first = position-Some (λ value. nat_le n value) tops k 0 found in
-    elim (cases_lt (length xs) (PAGE * k)) [
-      | inr inside ↦ inside
-      | inl past ↦
-          absurd (omega (arith, leb-true n _ first.1, top_least xs tops paged.tops_are k 0 (λ i low high inside. absurd (omega arith))))
-    ]
 
 -- the first k pages are zeros now, and the others are as they were
 pub record Cleared (old now : List ℕ) (k : ℕ) : Type 0 where

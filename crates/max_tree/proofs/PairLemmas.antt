@@ -1,9 +1,9 @@
 -- Pairs of even numbers, of which one is 0 or the first is 2, as one number each.
-use Rattle.std.proofs.Common.{◌≡◌, ◌≢◌, ◌⊎◌, inl, inr, ℕ, zero, suc, ◌+◌, ◌-◌, ◌*◌, ◌/◌, ◌%◌, ◌^◌, ◌<◌, ◌≤◌, max, min, cond, true, false, eqb, Bool, List, [], ◌∷◌, length, get_or, set, Some, None, refl, sym, ap, ap₂, ◌∙◌, subst, arith}
+use Rattle.std.proofs.Common.{◌≡◌, ◌≢◌, ◌⊎◌, inl, inr, ℕ, zero, suc, ◌+◌, ◌-◌, ◌*◌, ◌/◌, ◌%◌, ◌<◌, ◌≤◌, max, min, cond, true, false, eqb, Bool, List, [], ◌∷◌, length, get_or, set, Some, None, refl, sym, ap, ap₂, ◌∙◌, subst, arith}
 use Rattle.std.specs.Prelude.{nat_le}
 use Rattle.std.specs.List.{position}
 use Rattle.std.proofs.lemmas.Bool.{cases_lt, cases_eq, eq-eqb, ne_eqb, leb-true, leb-false, le-leb, lt-leb}
-use Rattle.std.proofs.lemmas.List.{length-set, get_or-set_same, get_or-set_other, get_or_past}
+use Rattle.std.proofs.lemmas.List.{length-set, get_or-set_same, get_or-set_other}
 use Rattle.std.proofs.lemmas.List.Quantifiers.{position-Some}
 use Rattle.max_tree.specs.Halves.{half, halves_of, other_half, IsPair}
 use Rattle.max_tree.specs.Pages.{largest}
@@ -51,25 +51,6 @@ codes : (x : ℕ) → (x % 4 ≡ 0) ⊎ ((x % 4 ≡ 1) ⊎ ((x % 4 ≡ 2) ⊎ (x
 codes x = elim (cases_lt (x % 4) 2) [
   | inl low ↦ elim (cases_eq (x % 4) 0) [ inl is ↦ inl is | inr other ↦ inr (inl (omega arith)) ]
   | inr high ↦ elim (cases_eq (x % 4) 2) [ inl is ↦ inr (inr (inl is)) | inr other ↦ inr (inr (inr (omega arith))) ]
-]
-
--- both are even and no larger than what the pair tells, or the first is 2
-pub record Halved (x : ℕ) : Type 0 where
-  pub first_even : half x 0 % 2 ≡ 0
-  pub second_even : half x 1 % 2 ≡ 0
-  pub first_small : x < 2 ^ 32 → half x 0 < 2 ^ 31
-  pub second_small : x < 2 ^ 32 → half x 1 < 2 ^ 31
-
-pub halved : (x : ℕ) → Halved x
-halved x = elim (codes x) [
-  | inl e ↦ let t = (tells x).zero_code e in record { first_even = omega (arith, t.0); second_even = omega (arith, t.1); first_small = λ s. omega (arith, t.0); second_small = λ s. omega (arith, t.1) }
-  | inr more ↦ elim more [
-    | inl e ↦ let t = (tells x).one_code e in record { first_even = omega (arith, t.0); second_even = omega (arith, t.1); first_small = λ s. omega (arith, t.0); second_small = λ s. omega (arith, t.1) }
-    | inr more ↦ elim more [
-      | inl e ↦ let t = (tells x).two_code e in record { first_even = omega (arith, t.0); second_even = omega (arith, t.1); first_small = λ s. omega (arith, t.0); second_small = λ s. omega (arith, t.1) }
-      | inr e ↦ let t = (tells x).three_code e in record { first_even = omega (arith, t.0); second_even = omega (arith, t.1); first_small = λ s. omega (arith, t.0); second_small = λ s. omega (arith, t.1) }
-    ]
-  ]
 ]
 
 -- what is encoded for a pair in which the first number is 2 if both are nonzero
@@ -147,10 +128,10 @@ pub pair_inside : (xs : List ℕ) (p : ℕ) → p < length (halves_of xs) → p 
 pair_inside xs p inside = omega (arith, halves_length xs)
 
 -- one of a pair is set
-pub is_put : (xs : List ℕ) (p size v : ℕ) → p < length (halves_of xs) → half v (p % 2) ≡ size → half v (1 - p % 2) ≡ half (get_or xs (p / 2) 0) (1 - p % 2) → IsPut (halves_of xs) (halves_of (set xs (p / 2) v)) p size
-is_put xs p size v inside here other_is =
-    let there = pair_inside xs p inside in
-    record {
+pub is_put : (xs xs' view : List ℕ) (p size v : ℕ) → halves_of xs ≡ view → xs' ≡ set xs (p / 2) v → p < length view → half v (p % 2) ≡ size → half v (1 - p % 2) ≡ half (get_or xs (p / 2) 0) (1 - p % 2) → IsPut view (halves_of xs') p size
+is_put xs xs' view p size v shown are inside here other_is =
+    let there = pair_inside xs p (omega (arith, ap length shown)) in
+    rw (sym shown, are) (record {
       count = set_length xs (p / 2) v;
       there = pair_set xs (p / 2) v p there refl ∙ here;
       others = λ i other. elim (cases_eq (i / 2) (p / 2)) [
@@ -160,7 +141,7 @@ is_put xs p size v inside here other_is =
             pair_set xs (p / 2) v i there pair ∙ ap (half v) which ∙ other_is
             ∙ sym (halves_at xs i ∙ ap₂ (λ (k w : ℕ). half (get_or xs k 0) w) pair which)
       ];
-    }
+    })
 
 -- the other number of p's pair
 pub other_is : (xs : List ℕ) (p : ℕ) → get_or (halves_of xs) (other_half p) 0 ≡ half (get_or xs (p / 2) 0) (1 - p % 2)
@@ -170,32 +151,16 @@ other_is xs p =
     halves_at xs (other_half p) ∙ ap₂ (λ (k w : ℕ). half (get_or xs k 0) w) place which
 
 -- in one pair
-pub is_moved_in : (xs : List ℕ) (gone p size v : ℕ) → p < length (halves_of xs) → gone ≢ p → gone / 2 ≡ p / 2 → half v (p % 2) ≡ size → half v (1 - p % 2) ≡ 0 → IsMoved (halves_of xs) (halves_of (set xs (p / 2) v)) gone p size
-is_moved_in xs gone p size v inside apart pair here other =
-    let there = pair_inside xs p inside in
+pub is_moved_in : (xs xs' view : List ℕ) (gone p size v : ℕ) → halves_of xs ≡ view → xs' ≡ set xs (p / 2) v → p < length view → gone ≢ p → gone / 2 ≡ p / 2 → half v (p % 2) ≡ size → half v (1 - p % 2) ≡ 0 → IsMoved view (halves_of xs') gone p size
+is_moved_in xs xs' view gone p size v shown are inside apart pair here other =
+    let there = pair_inside xs p (omega (arith, ap length shown)) in
     let which : gone % 2 ≡ 1 - p % 2 = omega arith in
-    record {
+    rw (sym shown, are) (record {
       count = set_length xs (p / 2) v;
       there = pair_set xs (p / 2) v p there refl ∙ here;
       gone_is = pair_set xs (p / 2) v gone there pair ∙ ap (half v) which ∙ other;
       others = λ i first second. pair_other xs (p / 2) v i (λ e. omega arith);
-    }
-
--- each number of the row tells a pair
-pub set_pairs : (xs : List ℕ) (k v : ℕ) → ((i : ℕ) → IsPair (get_or xs i 0)) → IsPair v → (i : ℕ) → IsPair (get_or (set xs k v) i 0)
-set_pairs xs k v all is i = elim (cases_eq i k) [
-  | inr other ↦ subst IsPair (sym (get_or-set_other xs k i v 0 other)) (all i)
-  | inl same ↦ elim (cases_lt k (length xs)) [
-    | inl inside ↦ subst IsPair (sym (ap (λ (j : ℕ). get_or (set xs k v) j 0) same ∙ get_or-set_same xs k v 0 inside)) is
-    | inr past ↦ subst IsPair (sym (get_or_past (set xs k v) i 0 (omega (arith, length-set xs k v)))) zero_pair
-  ]
-]
-  where
-    zero_pair : IsPair 0
-    zero_pair = record { code = λ e. omega arith; one = λ e. omega arith; two = λ e. omega arith }
-
-pub zero_pairs : (xs : List ℕ) → ((i : ℕ) → get_or xs i 0 ≡ 0) → (i : ℕ) → IsPair (get_or xs i 0)
-zero_pairs xs zeros i = subst IsPair (sym (zeros i)) (record { code = λ e. omega arith; one = λ e. omega arith; two = λ e. omega arith })
+    })
 
 pub largest_halves : (xs : List ℕ) → ((i : ℕ) → IsPair (get_or xs i 0)) → largest (halves_of xs) ≡ largest xs / 4 * 2
 largest_halves [] all = refl
@@ -264,12 +229,12 @@ pub none_large : (xs : List ℕ) (n : ℕ) → largest xs < n → position (λ v
 none_large xs n less = position_none (λ value. nat_le n value) xs (λ i inside. lt-leb n _ (omega (arith, largest_bound xs i)))
 
 -- the first of p's own pair, where p is the second
-pub last_own : (xs : List ℕ) (p : ℕ) → p % 2 ≡ 1 → 0 < half (get_or xs (p / 2) 0) 0 → IsLastBefore (halves_of xs) p (Some (p - 1))
-last_own xs p odd some =
+pub last_own : (xs view : List ℕ) (p own : ℕ) → halves_of xs ≡ view → own ≡ half (get_or xs (p / 2) 0) 0 → p % 2 ≡ 1 → 0 < own → IsLastBefore view p (Some (p - 1))
+last_own xs view p own shown is odd some =
     let place : (p - 1) / 2 ≡ p / 2 = omega arith in
     let which : (p - 1) % 2 ≡ 0 = omega arith in
     let here : get_or (halves_of xs) (p - 1) 0 ≡ half (get_or xs (p / 2) 0) 0 = halves_at xs (p - 1) ∙ ap₂ (λ (j w : ℕ). half (get_or xs j 0) w) place which in
-    record { found = (omega arith, λ e. omega arith); last = λ i past before. absurd (omega arith) }
+    rw (sym shown) (record { found = (omega arith, λ e. omega arith); last = λ i past before. absurd (omega arith) })
 
 -- no number of p's own pair stands before it
 pub record NoneOwn (xs : List ℕ) (p : ℕ) : Type 0 where
@@ -281,14 +246,14 @@ own_zero xs p i h before pair =
     let which : i % 2 ≡ 0 = omega arith in
     halves_at xs i ∙ ap₂ (λ (j w : ℕ). half (get_or xs j 0) w) place which ∙ h.none (omega arith)
 
-pub last_none_half : (xs : List ℕ) (p : ℕ) → NoneOwn xs p → ((k : ℕ) → k < p / 2 → get_or xs k 0 ≡ 0) → IsLastBefore (halves_of xs) p None
-last_none_half xs p own zeros = record {
+pub last_none : (xs view : List ℕ) (p : ℕ) → halves_of xs ≡ view → NoneOwn xs p → ((k : ℕ) → k < p / 2 → get_or xs k 0 ≡ 0) → IsLastBefore view p None
+last_none xs view p shown own zeros = rw (sym shown) (record {
   found = λ i before. elim (cases_lt (i / 2) (p / 2)) [
     | inl earlier ↦ halves_at xs i ∙ ap (λ (x : ℕ). half x (i % 2)) (zeros (i / 2) earlier) ∙ half_zero (i % 2)
     | inr pair ↦ own_zero xs p i own before pair
   ];
   last = tt;
-}
+})
 
 -- the last number of the last pair before p's own one that is not 0
 pub last_half : (xs : List ℕ) (p k w : ℕ) → NoneOwn xs p → k < p / 2 → w < 2 → half (get_or xs k 0) w ≢ 0 → ((v : ℕ) → w < v → v < 2 → half (get_or xs k 0) v ≡ 0) → ((j : ℕ) → k < j → j < p / 2 → get_or xs j 0 ≡ 0) → IsLastBefore (halves_of xs) p (Some (2 * k + w))
@@ -310,24 +275,6 @@ last_half xs p k w own low which_low some later_zero zeros =
       ];
     }
 
--- the same, as clauses see the numbers
-pub put_seen : (xs xs' view : List ℕ) (p size v : ℕ) → halves_of xs ≡ view → xs' ≡ set xs (p / 2) v → p < length view → half v (p % 2) ≡ size → half v (1 - p % 2) ≡ half (get_or xs (p / 2) 0) (1 - p % 2) → IsPut view (halves_of xs') p size
-put_seen xs xs' view p size v shown are inside here other =
-    let put = is_put xs p size v (omega (arith, ap length shown)) here other in
-    subst (λ (ys : List ℕ). IsPut ys (halves_of xs') p size) shown (subst (λ (ys : List ℕ). IsPut (halves_of xs) (halves_of ys) p size) (sym are) put)
-
-pub moved_in_seen : (xs xs' view : List ℕ) (gone p size v : ℕ) → halves_of xs ≡ view → xs' ≡ set xs (p / 2) v → p < length view → gone ≢ p → gone / 2 ≡ p / 2 → half v (p % 2) ≡ size → half v (1 - p % 2) ≡ 0 → IsMoved view (halves_of xs') gone p size
-moved_in_seen xs xs' view gone p size v shown are inside apart pair here other =
-    let moved = is_moved_in xs gone p size v (omega (arith, ap length shown)) apart pair here other in
-    subst (λ (ys : List ℕ). IsMoved ys (halves_of xs') gone p size) shown (subst (λ (ys : List ℕ). IsMoved (halves_of xs) (halves_of ys) gone p size) (sym are) moved)
-
-pub last_own_seen : (xs view : List ℕ) (p own : ℕ) → halves_of xs ≡ view → own ≡ half (get_or xs (p / 2) 0) 0 → p % 2 ≡ 1 → 0 < own → IsLastBefore view p (Some (p - 1))
-last_own_seen xs view p own shown is odd some =
-    subst (λ (ys : List ℕ). IsLastBefore ys p (Some (p - 1))) shown (last_own xs p odd (omega arith))
-
-pub last_none_seen : (xs view : List ℕ) (p : ℕ) → halves_of xs ≡ view → NoneOwn xs p → ((k : ℕ) → k < p / 2 → get_or xs k 0 ≡ 0) → IsLastBefore view p None
-last_none_seen xs view p shown own zeros = subst (λ (ys : List ℕ). IsLastBefore ys p None) shown (last_none_half xs p own zeros)
-
 -- a pair that is not 0 has a second number unless its code is 0
 second_there : (x : ℕ) → IsPair x → x ≢ 0 → x % 4 ≢ 0 → half x 1 ≢ 0
 second_there x is some other e =
@@ -345,8 +292,8 @@ second_there x is some other e =
     ]
 
 -- the last pair before p's own one that is not 0: its second number is the last, if it is nonzero
-pub last_pair_seen : (xs view : List ℕ) (p k pair code : ℕ) → halves_of xs ≡ view → ((i : ℕ) → IsPair (get_or xs i 0)) → NoneOwn xs p → (k < p / 2) × (get_or xs k 0 ≢ 0) → ((j : ℕ) → k < j → j < p / 2 → get_or xs j 0 ≡ 0) → pair ≡ get_or xs k 0 → code ≡ min (pair % 4) 1 → IsLastBefore view p (Some (2 * k + code))
-last_pair_seen xs view p k pair code shown all own found zeros is code_is =
+pub last_pair : (xs view : List ℕ) (p k pair code : ℕ) → halves_of xs ≡ view → ((i : ℕ) → IsPair (get_or xs i 0)) → NoneOwn xs p → (k < p / 2) × (get_or xs k 0 ≢ 0) → ((j : ℕ) → k < j → j < p / 2 → get_or xs j 0 ≡ 0) → pair ≡ get_or xs k 0 → code ≡ min (pair % 4) 1 → IsLastBefore view p (Some (2 * k + code))
+last_pair xs view p k pair code shown all own found zeros is code_is =
     subst (λ (ys : List ℕ). IsLastBefore ys p (Some (2 * k + code))) shown (elim (cases_eq (get_or xs k 0 % 4) 0) [
       | inl first ↦
           let none : code ≡ 0 = omega (arith, is, code_is) in

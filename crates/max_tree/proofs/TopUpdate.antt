@@ -1,18 +1,10 @@
 -- One number of a page is written: when its top is known without a look at the others.
-use Rattle.std.proofs.Common.{◌≡◌, ◌≢◌, ℕ, ◌+◌, ◌-◌, ◌*◌, ◌/◌, ◌%◌, ◌<◌, ◌≤◌, List, length, get_or, set, sym, ap, ◌∙◌, subst, inl, inr, arith, get_or-set_same, get_or-set_other}
+use Rattle.std.proofs.Common.{◌≡◌, ◌≢◌, ℕ, ◌+◌, ◌-◌, ◌*◌, ◌/◌, ◌<◌, ◌≤◌, List, length, get_or, set, sym, ap, inl, inr, arith, get_or-set_same, get_or-set_other}
 use Rattle.std.proofs.lemmas.Bool.{cases_lt, cases_eq}
-use Rattle.std.proofs.lemmas.List.{set-set, set-get_or}
-use Rattle.max_tree.specs.Pages.{largest, page, IsPaged}
+use Rattle.max_tree.specs.Pages.{largest, page}
 use Rattle.max_tree.specs.declared.row.TheConstants.{PAGE}
 use Rattle.max_tree.proofs.Largest.{largest_bound, largest_least}
-use Rattle.max_tree.proofs.PageLemmas.{page_at, page_length, set_paged}
-
--- no number is larger than the largest one of its own page
-pub own_page : (xs : List ℕ) (p : ℕ) → get_or xs p 0 ≤ largest (page xs (p / PAGE))
-own_page xs p =
-    let place : PAGE * (p / PAGE) + p % PAGE ≡ p = omega arith in
-    let same : get_or (page xs (p / PAGE)) (p % PAGE) 0 ≡ get_or xs p 0 = page_at xs (p / PAGE) (p % PAGE) (omega arith) ∙ ap (λ (n : ℕ). get_or xs n 0) place in
-    omega (arith, same, largest_bound (page xs (p / PAGE)) (p % PAGE))
+use Rattle.max_tree.proofs.PageLemmas.{page_at, page_length, own_page}
 
 -- two rows differ only at p: a page's largest number is at most m in the one if it is in the other
 -- and the number at p is
@@ -46,13 +38,3 @@ top_stays xs p old top before inside low less =
       | inr high ↦ omega arith
       | inl lower ↦ absurd (omega (arith, page_least xs (set xs p old) (p / PAGE) p (top - 1) (λ i other. get_or-set_other xs p i old 0 other) (omega arith) (omega arith)))
     ]
-
--- the tops before a write are those of the row with the old number in its place again
-pub top_before : (xs tops : List ℕ) (p value : ℕ) → IsPaged xs tops → get_or tops (p / PAGE) 0 ≡ largest (page (set (set xs p value) p (get_or xs p 0)) (p / PAGE))
-top_before xs tops p value paged =
-    paged.tops_are (p / PAGE) ∙ ap (λ (ys : List ℕ). largest (page ys (p / PAGE))) (sym (set-set xs p value (get_or xs p 0) ∙ set-get_or xs p 0))
-
--- a write that leaves the top leaves the tops
-pub stays_paged : (xs tops : List ℕ) (p v : ℕ) → IsPaged xs tops → p < length xs → get_or tops (p / PAGE) 0 ≡ largest (page (set xs p v) (p / PAGE)) → IsPaged (set xs p v) tops
-stays_paged xs tops p v paged inside is =
-    subst (λ (ts : List ℕ). IsPaged (set xs p v) ts) (set-get_or tops (p / PAGE) 0) (set_paged xs tops p v (get_or tops (p / PAGE) 0) paged inside is)

@@ -1,12 +1,9 @@
-use Rattle.std.proofs.Common.{◌≡◌, ℕ, List, replicate, rules, subst, sym}
-use Rattle.max_tree.specs.Bits.{AreWords}
+use Rattle.std.proofs.Common.{rules}
 use Rattle.max_tree.proofs.Rows.{front_made}
-use Rattle.max_tree.proofs.WordLemmas.{words_room}
+use Rattle.max_tree.proofs.WordLemmas.{word_rows}
 use Rattle.max_tree.proofs.bits.BitTree.new.Goals as goal
 
 pub returns : goal.returns
 returns c =
     let shape = c.shape_for-above in
-    let all = c.in_ok-words.words.items in
-    let zeros : all ≡ replicate shape.result.1 0 = search rules in
-    front_made all c.args.count shape.result.1 zeros (words_room shape.result.0 c.args.count all (subst (λ (xs : List ℕ). AreWords shape.result.0 c.args.count xs) (sym zeros) shape.ensures.levels))
+    front_made word_rows shape.result.0 c.args.count shape.result.1 c.in_ok-words.words.items shape.ensures.levels (search rules)

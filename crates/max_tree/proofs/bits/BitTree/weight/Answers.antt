@@ -1,6 +1,6 @@
-use Rattle.std.proofs.Common.{◌≡◌, length, ap, rules, arith}
-use Rattle.max_tree.proofs.Rows.{front_count}
-use Rattle.max_tree.proofs.WordLemmas.{words_room, words_most}
+use Rattle.std.proofs.Common.{◌≡◌, ℕ, ◌+◌, ◌-◌, length, ap, rules, arith}
+use Rattle.max_tree.proofs.Rows.{front_count, rows_room, rows_most}
+use Rattle.max_tree.proofs.WordLemmas.{word_rows}
 use Rattle.max_tree.proofs.bits.BitTree.weight.Goals as goal
 
 pub returns-clause-most : goal.returns-clause-most
@@ -8,4 +8,5 @@ returns-clause-most c =
     let tree = c.self.inside in
     let all = tree.words.items in
     let long : c.len.result ≡ length all = search rules in
-    omega (arith, long, words_most tree.above tree.count all c.self.invariant.1, front_count all tree.count (words_room tree.above tree.count all c.self.invariant.1), ap length c.self.view_is)
+    let most = rows_most word_rows (λ (n : ℕ). n + n - 1) (λ n. omega arith) (λ n many. omega arith) tree.above tree.count all c.self.invariant.1 in
+    omega (arith, long, most, front_count all tree.count (rows_room word_rows tree.above tree.count all c.self.invariant.1), ap length c.self.view_is)

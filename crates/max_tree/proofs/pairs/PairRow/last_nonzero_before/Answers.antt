@@ -1,6 +1,6 @@
 use Rattle.std.proofs.Common.{length, ap, arith, ◌∙◌, ℕ}
 use Rattle.max_tree.specs.Halves.{half}
-use Rattle.max_tree.proofs.PairLemmas.{NoneOwn, pair_inside, last_own_seen, last_none_seen, last_pair_seen}
+use Rattle.max_tree.proofs.PairLemmas.{NoneOwn, pair_inside, last_own, last_none, last_pair}
 use Rattle.max_tree.proofs.pairs.PairRow.last_nonzero_before.Goals as goal
 use Rattle.max_tree.proofs.pairs.PairRow.last_nonzero_before.Goals.{Joined-else-p-eq1, else-p-eq1-via-then-p-eq1+else-half_of-gt0, else-p-eq1-via-else-p-eq1}
 
@@ -12,7 +12,7 @@ last_nonzero_before-requires c = pair_inside c.self.inside.row c.args.p (omega (
 
 pub returns-then-half_of-gt0-clause-found : goal.returns-then-half_of-gt0-clause-found
 returns-then-half_of-gt0-clause-found c =
-    (last_own_seen c.self.inside.row c.args.self.now c.args.p c.half_of.result c.self.view_is (c.half_of.ensures ∙ ap (λ (x : ℕ). half x 0) c.get.ensures) c.if-p-eq1.true c.if-half_of-gt0.true).found
+    (last_own c.self.inside.row c.args.self.now c.args.p c.half_of.result c.self.view_is (c.half_of.ensures ∙ ap (λ (x : ℕ). half x 0) c.get.ensures) c.if-p-eq1.true c.if-half_of-gt0.true).found
 
 own_none : (c : Joined-else-p-eq1) → NoneOwn c.self.inside.row c.args.p
 own_none c = record {
@@ -24,12 +24,9 @@ own_none c = record {
 
 pub returns-in_default-clause-found : goal.returns-in_default-clause-found
 returns-in_default-clause-found c =
-    (last_none_seen c.self.inside.row c.args.self.now c.args.p c.self.view_is (own_none c.before.before) c.in_default.ensures.found).found
+    (last_none c.self.inside.row c.args.self.now c.args.p c.self.view_is (own_none c.before.before) c.in_default.ensures.found).found
 
-pub returns-clause-found : goal.returns-clause-found
-returns-clause-found c =
-    (last_pair_seen c.self.inside.row c.args.self.now c.args.p c.in-Some.k c.get-2.result c.second_or_first.result c.self.view_is c.self.invariant.1 (own_none c.before.before.before.before) c.in-Some.ensures.found c.in-Some.ensures.last c.get-2.ensures c.second_or_first.ensures).found
-
-pub returns-clause-last : goal.returns-clause-last
-returns-clause-last c =
-    (last_pair_seen c.self.inside.row c.args.self.now c.args.p c.in-Some.k c.get-2.result c.second_or_first.result c.self.view_is c.self.invariant.1 (own_none c.before.before.before.before) c.in-Some.ensures.found c.in-Some.ensures.last c.get-2.ensures c.second_or_first.ensures).last
+pub returns : goal.returns
+returns c =
+    let h = last_pair c.self.inside.row c.args.self.now c.args.p c.in-Some.k c.get-2.result c.second_or_first.result c.self.view_is c.self.invariant.1 (own_none c.before.before.before.before) c.in-Some.ensures.found c.in-Some.ensures.last c.get-2.ensures c.second_or_first.ensures in
+    record { found = h.found; last = h.last }

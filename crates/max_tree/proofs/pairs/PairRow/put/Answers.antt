@@ -1,6 +1,6 @@
 use Rattle.std.proofs.Common.{◌≡◌, ◌≢◌, ℕ, cond, eqb, ◌-◌, ◌%◌, List, length, get_or, ap, sym, ◌∙◌, subst, arith}
 use Rattle.max_tree.specs.Halves.{half, MayStand, other_half}
-use Rattle.max_tree.proofs.PairLemmas.{pair_inside, put_seen, other_is}
+use Rattle.max_tree.proofs.PairLemmas.{pair_inside, is_put, other_is}
 use Rattle.max_tree.proofs.pairs.PairRow.put.Goals as goal
 
 pub get-own-requires : goal.get-own-requires
@@ -18,14 +18,8 @@ pair_with-pair-requires-clause-beside c _ =
     let here = subst (λ (x : ℕ). MayStand c.args.p c.args.size x) other c.requires.beside in
     subst (λ (w : ℕ). half c.get-own.result (1 - c.args.p % 2) ≢ 0 → cond (eqb w 0) c.args.size (half c.get-own.result (1 - c.args.p % 2)) ≡ 2) which here
 
-pub returns-clause-count : goal.returns-clause-count
-returns-clause-count c =
-    (put_seen c.self.inside.row c.change.new.self c.args.self.now c.args.p c.args.size c.pair_with-pair.result c.self.view_is c.change.ensures c.requires.inside c.pair_with-pair.ensures.there (c.pair_with-pair.ensures.other ∙ ap (λ (x : ℕ). half x (1 - c.args.p % 2)) c.get-own.ensures)).count
-
-pub returns-clause-there : goal.returns-clause-there
-returns-clause-there c =
-    (put_seen c.self.inside.row c.change.new.self c.args.self.now c.args.p c.args.size c.pair_with-pair.result c.self.view_is c.change.ensures c.requires.inside c.pair_with-pair.ensures.there (c.pair_with-pair.ensures.other ∙ ap (λ (x : ℕ). half x (1 - c.args.p % 2)) c.get-own.ensures)).there
-
-pub returns-clause-others : goal.returns-clause-others
-returns-clause-others c =
-    (put_seen c.self.inside.row c.change.new.self c.args.self.now c.args.p c.args.size c.pair_with-pair.result c.self.view_is c.change.ensures c.requires.inside c.pair_with-pair.ensures.there (c.pair_with-pair.ensures.other ∙ ap (λ (x : ℕ). half x (1 - c.args.p % 2)) c.get-own.ensures)).others
+pub returns : goal.returns
+returns c =
+    let made = c.pair_with-pair in
+    let h = is_put c.self.inside.row c.change.new.self c.args.self.now c.args.p c.args.size made.result c.self.view_is c.change.ensures c.requires.inside made.ensures.there (made.ensures.other ∙ ap (λ (x : ℕ). half x (1 - c.args.p % 2)) c.get-own.ensures) in
+    record { count = h.count; there = h.there; others = h.others }
