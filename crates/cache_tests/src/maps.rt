@@ -48,7 +48,7 @@ fn tells(
     Ok(())
 }
 
-pub(crate) const ONE: Conf = Conf {
+const ONE: Conf = Conf {
     words: 512,
     slots: 32,
     ttl: 0,
