@@ -181,13 +181,13 @@ static zend_always_inline void find_in(const zend_string *key, uint64_t hash, ti
 	shared_read_find((const uint8_t *) ZSTR_VAL(key), ZSTR_LEN(key), hash, (uint64_t) t, found);
 }
 
-/* In a lane or under the lock: the kept value of a string that was found, or null. Other processes may read at the same
- * time, so no call gets the handle. */
+/* In a lane or under the lock, with apc.kept_size: the kept value of a string that was found, or null. Other processes
+ * may read at the same time, so no call gets the handle. */
 static zend_always_inline apcu_kept *kept_of(zend_string *key, uint32_t kind, uint32_t place, uint64_t len)
 {
 	uint8_t tail[APCU_TAIL];
 
-	if (EXPECTED(APCU_G(kept_size) <= 0) || kind != CACHE_STR || !apcu_may_have_stamp(len)) {
+	if (kind != CACHE_STR || !apcu_may_have_stamp(len)) {
 		return NULL;
 	}
 	memcpy(tail, shared_at->words + place + len / 8 - 1, sizeof tail);
@@ -203,7 +203,7 @@ bool apcu_read(zend_string *key, uint64_t hash, time_t t, bool only_hits, char *
 		return false;
 	}
 	find_in(key, hash, t, found);
-	seen->kept = kept_of(key, found->kind, found->place, found->len);
+	seen->kept = UNEXPECTED(APCU_G(kept_size) > 0) ? kept_of(key, found->kind, found->place, found->len) : NULL;
 	seen->bytes = few;
 	if (found->kind == CACHE_STR && EXPECTED(!seen->kept)) {
 		if (found->len > APCU_FEW_BYTES) {
@@ -281,7 +281,7 @@ cache_answer apcu_look(zend_string *key, time_t t, shared_text *held, apcu_kept 
 	unsigned seat;
 	cache_answer answer = shared_look((const uint8_t *) ZSTR_VAL(key), ZSTR_LEN(key), apcu_hash_of(key), (uint64_t) t, &seat);
 
-	*kept = kept_of(key, answer.kind, answer.place, answer.len);
+	*kept = UNEXPECTED(APCU_G(kept_size) > 0) ? kept_of(key, answer.kind, answer.place, answer.len) : NULL;
 	shared_hold_found(&answer, *kept ? CACHE_SEATS : seat, held);
 	return answer;
 }
