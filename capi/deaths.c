@@ -4,10 +4,11 @@
  * released, and at some of the call. Then the parent enters, and finds all of the old text or of the
  * new one, or an empty cache that was recreated. Then the same for a child that recreates the cache
  * because another one died inside a call, and for one that copies a long text outside of the
- * lock: at the end no row is kept for a dead process.
+ * lock: at the end no row is kept for a dead process. All of it once by the calls of shared_cache.h,
+ * and once by those of a host, as the extension for PHP makes them.
  * Usage: deaths. Ends with status 77 if processes may not be stepped. */
 #define _GNU_SOURCE
-#include "shared_cache.h"
+#include "shared_host.h"
 
 #include <signal.h>
 #include <stdio.h>
@@ -46,6 +47,16 @@ static void store_over(void) {
     shared_leave();
 }
 
+static void host_store_over(void) {
+    static const uint8_t key[] = "key";
+    cache_request store = {.kind = CACHE_STORE, .value = CACHE_STR, .t = now};
+    store.hash = cache_hash(key, 3);
+    if (!shared_lock())
+        return;
+    shared_ask(&store, key, 3, (const uint8_t *)after, strlen(after));
+    shared_unlock();
+}
+
 static void put_long(uint8_t *at) {
     static char text[5000];
     cache_request store = {.kind = CACHE_STORE, .value = CACHE_STR, .t = now};
@@ -53,16 +64,32 @@ static void put_long(uint8_t *at) {
     cache_ask(at, &store, (const uint8_t *)"long", 4, (const uint8_t *)text, sizeof text);
 }
 
-static void copy_long(void) {
+static void copy_held(const shared_text *held) {
     static uint8_t copy[5000];
+    if (held->bytes) {
+        memcpy(copy, held->bytes, sizeof copy);
+        shared_let_go(held);
+    }
+}
+
+static void copy_long(void) {
     shared_text held;
     shared_enter();
     shared_hold((const uint8_t *)"long", 4, now, &held);
     shared_leave();
-    if (held.bytes) {
-        memcpy(copy, held.bytes, sizeof copy);
-        shared_let_go(&held);
-    }
+    copy_held(&held);
+}
+
+static void host_copy_long(void) {
+    static const uint8_t key[] = "long";
+    shared_text held;
+    unsigned seat;
+    if (!shared_lock())
+        return;
+    cache_answer answer = shared_look(key, 4, cache_hash(key, 4), now, &seat);
+    shared_hold_found(&answer, seat, &held);
+    shared_unlock();
+    copy_held(&held);
 }
 
 /* Whether the row's block is free after it is deleted, though processes died while they copied it. */
@@ -80,6 +107,11 @@ static bool is_let_go(void) {
 static void enter_only(void) {
     shared_enter();
     shared_leave();
+}
+
+static void host_lock_only(void) {
+    if (shared_lock())
+        shared_unlock();
 }
 
 static void die_inside(void) {
@@ -178,6 +210,20 @@ static void tell(const char *of, struct found found) {
            found.old, found.new, found.empty, found.wrong);
 }
 
+static bool is_good(struct found of_store, struct found of_recreating, struct found of_copy) {
+    return of_copy.wrong == 0 && of_copy.old > 0 && of_store.wrong == 0 && of_store.old > 0 &&
+           of_store.new > 0 && of_store.empty > 0 && of_recreating.wrong == 0 &&
+           of_recreating.empty > 0;
+}
+
+static struct found find_copies(void (*work)(void)) {
+    put_long(shared_enter());
+    shared_leave();
+    struct found copied = find_all(work, false);
+    copied.wrong += !is_let_go();
+    return copied;
+}
+
 int main(void) {
     cache_shape shape = {.words = 4096, .slots = SLOTS, .segments = 1};
     if (shared_start(&shape) != CACHE_MADE)
@@ -190,11 +236,15 @@ int main(void) {
     tell("a store", stored);
     struct found made = find_all(enter_only, true);
     tell("recreating it", made);
-    struct found copied = find_all(copy_long, false);
-    copied.wrong += !is_let_go();
+    struct found copied = find_copies(copy_long);
     tell("a copy", copied);
-    bool is_good = copied.wrong == 0 && copied.old > 0 && stored.wrong == 0 && stored.old > 0 && stored.new > 0 && stored.empty > 0 &&
-                   made.wrong == 0 && made.empty > 0;
-    puts(is_good ? "as it should be" : "not as it should be");
-    return is_good ? 0 : 1;
+    struct found host_stored = find_all(host_store_over, false);
+    tell("a host's store", host_stored);
+    struct found host_made = find_all(host_lock_only, true);
+    tell("recreating it for a host", host_made);
+    struct found host_copied = find_copies(host_copy_long);
+    tell("a host's copy", host_copied);
+    bool good = is_good(stored, made, copied) && is_good(host_stored, host_made, host_copied);
+    puts(good ? "as it should be" : "not as it should be");
+    return good ? 0 : 1;
 }

@@ -2,7 +2,7 @@
 # SPDX-License-Identifier: MIT
 # Compiles the programs of this folder over the library for C, runs each in bounded time, and judges what it prints:
 # `test` makes each call, also with each null pointer; `reads` compares shared look-ups, which are counted later, with
-# calls; `forked` has eight processes that count to a million and 300 that are killed; `copies` reads outside of the lock
+# calls; `hosted` tries the hooks of a host; `forked` has eight processes that count to a million and 300 that are killed; `copies` reads outside of the lock
 # while others store; `deaths` kills a process after each instruction in turn; `locks` does the same at the lock, and
 # `lanes` for reads in lanes; `lanes_model` checks all interleavings of two readers and a writer, and finds each of its
 # faults; `full` fills 2 GB of words and reads them again; and `memory` checks how calls use memory. The last line is
@@ -57,6 +57,8 @@ for program in test forked copies deaths full; do
     cc "${flags[@]}" "$here/$program.c" "$here/shared_cache.c" "$library" -lpthread -o "$scratch/$program"
 done
 cc "${flags[@]}" "$here/reads.c" "$library" -o "$scratch/reads"
+# It includes shared_cache.c.
+cc "${flags[@]}" "$here/hosted.c" "$library" -lpthread -o "$scratch/hosted"
 cc "${flags[@]}" "$here/replay.c" "$library" -o "$scratch/apcu_replay"
 # It has an allocator of its own.
 cc "${flags[@]}" "$here/memory.c" "$library" -o "$scratch/memory"
@@ -75,12 +77,14 @@ fi
 run 60 test '[1-9][0-9]* passed, 0 failed'
 run 60 'test nulls' '[1-9][0-9]* passed, 0 failed'
 run 60 reads '[1-9][0-9]* passed, 0 failed'
+run 60 hosted '[1-9][0-9]* passed, 0 failed'
 run 60 memory '.*, [1-9][0-9]* expunges, .*; 0 calls did otherwise'
 run 300 'forked 125000 300' '8 children counted to 1000000 of 1000000' '300 kills: .*' \
     '0 children read a torn text .*'
 run 120 'copies 300' '[1-9][0-9]* copies were whole, .*, 0 were torn'
 run 300 deaths 'deaths in a store: .*; 0 wrong' 'deaths in recreating it: 0 .*, 0 .*; 0 wrong' \
-    'deaths in a copy: .*; 0 wrong'
+    'deaths in a copy: .*; 0 wrong' "deaths in a host's store: .*; 0 wrong" \
+    'deaths in recreating it for a host: 0 .*, 0 .*; 0 wrong' "deaths in a host's copy: .*; 0 wrong"
 run 120 lanes_model 'no process dies, .*: as it should be' 'each process may die .*: as it should be'
 for fault in {1..9}; do
     status=0

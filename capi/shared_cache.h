@@ -1,6 +1,7 @@
 /* SPDX-License-Identifier: MIT */
 /* One cache for a process and those that it forks: shared memory, the functions by which
- * the library allocates it, and a lock that outlives its owner. */
+ * the library allocates it, and a lock that outlives its owner. A program with calls of its own over
+ * this memory includes shared_host.h. */
 #ifndef SHARED_CACHE_H
 #define SHARED_CACHE_H
 

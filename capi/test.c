@@ -481,6 +481,27 @@ static void nulls(void) {
     WANT(kept.kind == CACHE_STR && kept.len == 4 && stand(kept.place, "kept"));
 }
 
+/* Shared look-ups of a key that is none: no event, so nothing is counted. */
+static void null_fetches(void) {
+    const uint8_t *key = (const uint8_t *)"k";
+    const size_t longest = (size_t)1 << 63;
+    uint8_t text[8];
+    cache_counts before = cache_get_counts(shared_enter());
+    shared_leave();
+    WANT(shared_fetch(NULL, 1, 50, text, sizeof text).kind == CACHE_BAD);
+    WANT(shared_fetch(key, longest, 50, text, sizeof text).kind == CACHE_TOO_LONG);
+    WANT(!shared_exists(NULL, 1, 50) && !shared_exists(key, longest, 50));
+    WANT(shared_exists(key, 1, 50) && shared_exists(NULL, 0, 50));
+    cache_counts after = cache_get_counts(shared_enter());
+    shared_leave();
+    WANT(memcmp(&before, &after, sizeof before) == 0);
+    WANT(shared_fetch(key, 1, 50, text, sizeof text).len == 4);
+    WANT(shared_fetch((const uint8_t *)"n", 1, 50, text, sizeof text).kind == CACHE_ABSENT);
+    after = cache_get_counts(shared_enter());
+    shared_leave();
+    WANT(after.hits == before.hits + 1 && after.misses == before.misses + 1);
+}
+
 int main(int argc, char **argv) {
     bool only_nulls = argc > 1 && strcmp(argv[1], "nulls") == 0;
     WANT(strcmp(cache_c_version(), CACHE_C_VERSION) == 0);
@@ -499,6 +520,8 @@ int main(int argc, char **argv) {
             refused();
         }
         shared_leave();
+        if (only_nulls)
+            null_fetches();
         shared_end();
     }
     if (!only_nulls)

@@ -26,7 +26,7 @@ static void start_cache(void)
 	cache_shape shape = apcu_settings_shape();
 	size_t bytes = 0;
 
-	if (apcu_shm_is_good(&shape)) {
+	if (shared_is_good(&shape)) {
 		if (!apcu_shm_start(&shape, apcu_settings_is_dumped(), &bytes)) {
 			zend_error(E_CORE_WARNING, "apc_mmap: Failed to mmap %zu bytes. Is your apc.shm_size too large?", bytes);
 		}
@@ -35,11 +35,11 @@ static void start_cache(void)
 
 	size_t slots = shape.slots;
 	shape.slots = 2;
-	if (apcu_shm_is_good(&shape)) {
+	if (shared_is_good(&shape)) {
 		zend_error_noreturn(E_CORE_ERROR, "Unable to allocate %zu bytes of shared memory for cache structures. "
 			"Either apc.shm_size is too small or apc.entries_hint too large", slots * sizeof(uint64_t));
 	}
-	for (shape.words = (uint32_t) 1 << 31; shape.words > 2 && !apcu_shm_is_good(&shape); shape.words /= 2) {
+	for (shape.words = (uint32_t) 1 << 31; shape.words > 2 && !shared_is_good(&shape); shape.words /= 2) {
 	}
 	zend_error(E_CORE_WARNING, "apc.shm_size is " ZEND_LONG_FMT " bytes, which exceeds the maximum of %zu; APCu is disabled",
 		APCU_G(shm_size), (size_t) shape.words * sizeof(uint64_t));
@@ -54,7 +54,7 @@ static void tell(const char *fault)
 
 static void start_record(void)
 {
-	if (!apcu_shm || !APCU_G(record_dir) || !*APCU_G(record_dir)) {
+	if (!shared_at || !APCU_G(record_dir) || !*APCU_G(record_dir)) {
 		return;
 	}
 #ifdef ZTS
@@ -76,7 +76,7 @@ static PHP_MINIT_FUNCTION(apcu)
 		start_cache();
 	}
 	start_record();
-	if (apcu_shm && APCU_G(preload_path)) {
+	if (shared_at && APCU_G(preload_path)) {
 		apcu_preload(APCU_G(preload_path));
 	}
 	apcu_iterator_start(register_class_APCUIterator(zend_ce_iterator), module_number);
@@ -87,7 +87,7 @@ static PHP_MSHUTDOWN_FUNCTION(apcu)
 {
 	tell(apcu_record_stop());
 	apcu_kept_stop();
-	apcu_shm_stop();
+	shared_end();
 	apcu_settings_stop(type, module_number);
 	return SUCCESS;
 }
@@ -99,7 +99,7 @@ static PHP_RINIT_FUNCTION(apcu)
 #endif
 	APCU_G(request_time) = 0;
 	apcu_kept_start_request();
-	if (apcu_shm) {
+	if (shared_at) {
 		/* Modules that start after this one have registered by now. */
 		apcu_serializers_find();
 	}

@@ -48,7 +48,7 @@ static void note_wait(int group)
 	}
 	for (uint32_t i = 0; i < APCU_ENTRY_GROUPS; i++) {
 		if (APCU_G(entry_depth)[i] > 0) {
-			atomic_store(&apcu_shm->entry[i].waits_for, (uint32_t) (group + 1));
+			atomic_store(&apcu_shm()->entry[i].waits_for, (uint32_t) (group + 1));
 		}
 	}
 }
@@ -57,7 +57,7 @@ static void note_wait(int group)
 static bool is_circle(uint32_t group)
 {
 	for (uint32_t n = 0; n < APCU_ENTRY_GROUPS && APCU_G(entry_owned) > 0; n++) {
-		uint32_t next = atomic_load(&apcu_shm->entry[group].waits_for);
+		uint32_t next = atomic_load(&apcu_shm()->entry[group].waits_for);
 
 		if (next == 0 || next > APCU_ENTRY_GROUPS) {
 			return false;
@@ -93,7 +93,7 @@ static bool run_interrupts(uint64_t waited)
 /* True, and whether the lock was taken; or false, if an exception was thrown meanwhile. */
 static bool wait_for(uint32_t group, bool *is_taken)
 {
-	robust_lock *lock = &apcu_shm->entry[group].lock;
+	robust_lock *lock = &apcu_shm()->entry[group].lock;
 	uint64_t since = 0;
 	int error = robust_lock_try(lock, 0);
 
@@ -119,7 +119,7 @@ static bool wait_for(uint32_t group, bool *is_taken)
 		if (since) {
 			apcu_shm_note_entry_wait(robust_nanoseconds() - since);
 		}
-		atomic_store(&apcu_shm->entry[group].waits_for, 0);
+		atomic_store(&apcu_shm()->entry[group].waits_for, 0);
 	}
 	return true;
 }
@@ -147,7 +147,7 @@ static void release(uint32_t group)
 {
 	APCU_G(entry_depth)[group] = 0;
 	APCU_G(entry_owned)--;
-	robust_lock_give(&apcu_shm->entry[group].lock);
+	robust_lock_give(&apcu_shm()->entry[group].lock);
 }
 
 void apcu_entry_end(const apcu_entry_lock *lock)

@@ -78,7 +78,7 @@ void apcu_rows_free(apcu_rows *list)
 
 bool apcu_rows_add(apcu_rows *list, uint32_t slot)
 {
-	uint64_t count = cache_list_rows(apcu_shm->cache, slot, 0, list->rows + list->count, list->room - list->count);
+	uint64_t count = cache_list_rows(shared_at->cache, slot, 0, list->rows + list->count, list->room - list->count);
 	size_t used = list->used;
 
 	/* As many as there is room for may not be all. */
@@ -92,7 +92,7 @@ bool apcu_rows_add(apcu_rows *list, uint32_t slot)
 		if (row->key_len > list->size - used) {
 			return false;
 		}
-		memcpy(list->keys + used, apcu_shm->words + row->key_place, row->key_len);
+		memcpy(list->keys + used, shared_at->words + row->key_place, row->key_len);
 		used += row->key_len;
 	}
 	list->count += count;
@@ -139,7 +139,7 @@ static bool copy_keys(all_rows *all, size_t count)
 		all->size = size;
 	}
 	for (; row < end; row++) {
-		memcpy(all->keys + all->used, apcu_shm->words + row->key_place, row->key_len);
+		memcpy(all->keys + all->used, shared_at->words + row->key_place, row->key_len);
 		all->used += row->key_len;
 	}
 	all->count += count;
@@ -153,12 +153,12 @@ static bool copy_keys(all_rows *all, size_t count)
 static bool copy_all(all_rows *all, size_t room)
 {
 	/* After the slots come the rows that were removed while a process copies them. */
-	uint32_t end = apcu_shm->shape.slots + 1;
+	uint32_t end = shared_at->shape.slots + 1;
 	struct cache_listing listing;
 
 	for (uint32_t from = 0, to; from < end; from = to) {
 		to = end - from < SLOTS_AT_ONCE ? end : from + SLOTS_AT_ONCE;
-		cache_list_slots(apcu_shm->cache, from, to, all->rows + all->count, room - all->count, &listing);
+		cache_list_slots(shared_at->cache, from, to, all->rows + all->count, room - all->count, &listing);
 		if (!copy_keys(all, (size_t) listing.count)) {
 			return false;
 		}
@@ -188,7 +188,7 @@ static bool list_all(all_rows *all, apcu_state *state)
 		size_t room = most + most / 16 + CACHE_SEATS;
 
 		*all = (all_rows) {.rows = room_for_rows(room)};
-		if (!apcu_lock()) {
+		if (!shared_lock()) {
 			efree(all->rows);
 			return false;
 		}
@@ -196,7 +196,7 @@ static bool list_all(all_rows *all, apcu_state *state)
 		most = (size_t) state->counts.entries;
 		bool is_room = most + CACHE_SEATS <= room;
 		is_copied = is_room && copy_all(all, room);
-		apcu_unlock();
+		shared_unlock();
 		if (UNEXPECTED(!is_copied)) {
 			efree(all->rows);
 			free(all->keys);
@@ -236,7 +236,7 @@ static void tell_rows(zval *info, const all_rows *all)
 	array_init(&slots);
 	zend_hash_real_init_packed(Z_ARRVAL(rows));
 	ZEND_HASH_FILL_PACKED(Z_ARRVAL(rows)) {
-		for (; row < end && row->slot < apcu_shm->shape.slots; row++) {
+		for (; row < end && row->slot < shared_at->shape.slots; row++) {
 			tell_row(&told, row, key);
 			key += row->key_len;
 			ZEND_HASH_FILL_ADD(&told);
@@ -276,10 +276,10 @@ PHP_FUNCTION(apcu_cache_info)
 	ZEND_PARSE_PARAMETERS_END();
 
 	if (is_limited) {
-		is_there = apcu_lock();
+		is_there = shared_lock();
 		if (is_there) {
 			state = apcu_shm_state();
-			apcu_unlock();
+			shared_unlock();
 		}
 	} else {
 		is_there = list_all(&all, &state);
@@ -290,8 +290,8 @@ PHP_FUNCTION(apcu_cache_info)
 	}
 
 	tell_start(return_value, 20);
-	tell_long(return_value, NUM_SLOTS, apcu_shm->shape.slots);
-	tell_long(return_value, TTL, apcu_shm->shape.ttl);
+	tell_long(return_value, NUM_SLOTS, shared_at->shape.slots);
+	tell_long(return_value, TTL, shared_at->shape.ttl);
 	tell_double(return_value, NUM_HITS, (double) state.counts.hits);
 	tell_double(return_value, NUM_MISSES, (double) state.counts.misses);
 	tell_double(return_value, NUM_INSERTS, (double) state.counts.inserts);
@@ -332,10 +332,10 @@ PHP_FUNCTION(apcu_key_info)
 		Z_PARAM_STR(key)
 	ZEND_PARSE_PARAMETERS_END();
 
-	if (apcu_lock()) {
+	if (shared_lock()) {
 		/* At the second 0 no row has expired: those that no fetch finds are listed too. */
-		row = cache_find_row(apcu_shm->cache, (const uint8_t *) ZSTR_VAL(key), ZSTR_LEN(key), 0);
-		apcu_unlock();
+		row = cache_find_row(shared_at->cache, (const uint8_t *) ZSTR_VAL(key), ZSTR_LEN(key), 0);
+		shared_unlock();
 	}
 	if (row.place == 0) {
 		RETURN_NULL();
@@ -356,13 +356,13 @@ static bool list_gaps(cache_gap **gaps, size_t *count, cache_counts *counts)
 {
 	for (size_t room = 256;; room *= 2) {
 		*gaps = safe_emalloc(room, sizeof **gaps, 0);
-		if (!apcu_lock()) {
+		if (!shared_lock()) {
 			efree(*gaps);
 			return false;
 		}
-		*counts = cache_get_counts(apcu_shm->cache);
-		*count = (size_t) cache_list_gaps(apcu_shm->cache, 0, *gaps, room);
-		apcu_unlock();
+		*counts = cache_get_counts(shared_at->cache);
+		*count = (size_t) cache_list_gaps(shared_at->cache, 0, *gaps, room);
+		shared_unlock();
 		if (*count < room) {
 			return true;
 		}
@@ -383,10 +383,10 @@ PHP_FUNCTION(apcu_sma_info)
 	ZEND_PARSE_PARAMETERS_END();
 
 	if (is_limited) {
-		is_there = apcu_lock();
+		is_there = shared_lock();
 		if (is_there) {
-			counts = cache_get_counts(apcu_shm->cache);
-			apcu_unlock();
+			counts = cache_get_counts(shared_at->cache);
+			shared_unlock();
 		}
 	} else {
 		is_there = list_gaps(&gaps, &count, &counts);
@@ -397,8 +397,8 @@ PHP_FUNCTION(apcu_sma_info)
 	}
 
 	tell_start(return_value, 4);
-	tell_long(return_value, NUM_SEG, apcu_shm->shape.segments);
-	tell_double(return_value, SEG_SIZE, (double) apcu_shm->shape.words * 8);
+	tell_long(return_value, NUM_SEG, shared_at->shape.segments);
+	tell_double(return_value, SEG_SIZE, (double) shared_at->shape.words * 8);
 	tell_double(return_value, AVAIL_MEM, (double) counts.free_words * 8);
 	if (is_limited) {
 		return;
@@ -438,20 +438,20 @@ static void print_kept(void)
 void apcu_info_print(void)
 {
 	php_info_print_table_start();
-	php_info_print_table_row(2, "APCu Support", apcu_shm ? "Enabled" : "Disabled");
+	php_info_print_table_row(2, "APCu Support", shared_at ? "Enabled" : "Disabled");
 	php_info_print_table_row(2, "Version", PHP_APCU_VERSION);
 	php_info_print_table_row(2, "Cache", "Yilumbaso");
 	php_info_print_table_row(2, "Cache Version", PHP_APCU_CACHE_VERSION);
 	php_info_print_table_row(2, "APCu Debugging", "Disabled");
 	php_info_print_table_row(2, "MMAP Support", "Enabled");
 	php_info_print_table_row(2, "MMAP File Mask", APCU_G(mmap_file_mask));
-	if (apcu_shm) {
+	if (shared_at) {
 		zend_string *names = apcu_serializers_names();
 		char remade[MAX_LENGTH_OF_LONG + 1];
 
 		php_info_print_table_row(2, "Serialization Support", ZSTR_VAL(names));
 		zend_string_release(names);
-		snprintf(remade, sizeof remade, ZEND_ULONG_FMT, (zend_ulong) apcu_shm->remade);
+		snprintf(remade, sizeof remade, ZEND_ULONG_FMT, (zend_ulong) shared_get_deaths().inside);
 		php_info_print_table_row(2, "Cache Recreated After Crash", remade);
 		print_kept();
 	} else {

@@ -126,7 +126,7 @@ static bool list_some(apcu_iterator *it, apcu_rows *list, size_t wanted)
 		uint32_t end = it->end - it->slot < SLOTS_AT_ONCE ? it->end : it->slot + SLOTS_AT_ONCE;
 
 		list->count = list->used = 0;
-		if (!apcu_lock()) {
+		if (!shared_lock()) {
 			it->slot = it->end;
 			return false;
 		}
@@ -137,7 +137,7 @@ static bool list_some(apcu_iterator *it, apcu_rows *list, size_t wanted)
 			}
 			it->slot++;
 		}
-		apcu_unlock();
+		shared_unlock();
 		if (list->count > 0) {
 			return true;
 		}
@@ -203,15 +203,15 @@ static bool peek(zend_string *key, cache_row *row, zval *value)
 
 		text = room > 0 ? zend_string_alloc(room - 1, 0) : NULL;
 		row->place = 0;
-		if (apcu_lock()) {
-			*row = cache_find_row(apcu_shm->cache, (const uint8_t *) ZSTR_VAL(key), ZSTR_LEN(key), 0);
+		if (shared_lock()) {
+			*row = cache_find_row(shared_at->cache, (const uint8_t *) ZSTR_VAL(key), ZSTR_LEN(key), 0);
 			if (row->place != 0 && row->value.kind == CACHE_STR) {
 				is_room = row->value.len <= room;
-				if (is_room && text && !cache_copy(apcu_shm->cache, row->value.place, (uint8_t *) ZSTR_VAL(text), row->value.len)) {
+				if (is_room && text && !cache_copy(shared_at->cache, row->value.place, (uint8_t *) ZSTR_VAL(text), row->value.len)) {
 					row->place = 0;
 				}
 			}
-			apcu_unlock();
+			shared_unlock();
 		}
 		if (is_room) {
 			break;
@@ -380,7 +380,7 @@ static bool fetch_chunk(apcu_iterator *it)
 static void add_totals(apcu_iterator *it)
 {
 	time_t t = apcu_time();
-	apcu_iterator all = {.end = apcu_shm->shape.slots};
+	apcu_iterator all = {.end = shared_at->shape.slots};
 	apcu_rows list;
 	search s;
 
@@ -440,7 +440,7 @@ ZEND_METHOD(APCUIterator, __construct)
 		php_error_docref(NULL, E_ERROR, "APCUIterator chunk size must be 0 or greater");
 		return;
 	}
-	if (!apcu_shm) {
+	if (!shared_at) {
 		zend_throw_error(NULL, "APC must be enabled to use APCUIterator");
 		return;
 	}
@@ -460,7 +460,7 @@ ZEND_METHOD(APCUIterator, __construct)
 	it->slot = 0;
 	it->listed = it->kept = 0;
 	/* No row is held here after it was removed. */
-	it->end = list == LIST_ACTIVE ? apcu_shm->shape.slots : 0;
+	it->end = list == LIST_ACTIVE ? shared_at->shape.slots : 0;
 	it->has_totals = false;
 	it->hits = it->total = 0;
 	it->size = 0;

@@ -105,7 +105,7 @@ static bool write_up_to(uint64_t position)
 /* Under the lock: whether a process that is alive writes. */
 static bool has_writer(void)
 {
-	return robust_mark_is_owned(&all->writer, &apcu_shm->lock);
+	return robust_mark_is_owned(&all->writer, &shared_at->lock);
 }
 
 /* Under the lock: makes this process the writer of what was appended. */
@@ -115,7 +115,7 @@ static void become_writer(void)
 	robust_has_words();
 	all->is_taking = true;
 	atomic_signal_fence(memory_order_seq_cst);
-	robust_mark_take(&all->writer, &apcu_shm->lock);
+	robust_mark_take(&all->writer, &shared_at->lock);
 	atomic_signal_fence(memory_order_seq_cst);
 	all->is_taking = false;
 	due = appended()->end;
@@ -266,7 +266,7 @@ bool apcu_record_is_on(void)
 	return apcu_is_recorded && all->state == RECORDING;
 }
 
-bool apcu_record_note(const cache_request *request, const zend_string *key, const char *bytes, size_t len,
+bool apcu_record_note(const cache_request *request, const char *key, size_t key_len, const char *bytes, size_t len,
 	const cache_answer *answer)
 {
 	if (answer->kind == CACHE_BAD || answer->kind == CACHE_TOO_LONG) {
@@ -278,14 +278,15 @@ bool apcu_record_note(const cache_request *request, const zend_string *key, cons
 	}
 
 	/* A clear has no key. */
-	const char *name = request->kind == CACHE_CLEAR ? "" : ZSTR_VAL(key);
-	size_t key_len = request->kind == CACHE_CLEAR ? 0 : ZSTR_LEN(key);
+	if (request->kind == CACHE_CLEAR) {
+		key_len = 0;
+	}
 	const char *text = bytes;
 	size_t text_len = 0;
 	if (is_with_values && is_store(request) && request->value == CACHE_STR) {
 		text_len = len;
 	} else if (is_with_values && request->kind == CACHE_LOOK && answer->kind == CACHE_STR) {
-		text = (const char *) (apcu_shm->words + answer->place);
+		text = (const char *) (shared_at->words + answer->place);
 		text_len = answer->len;
 	}
 
@@ -305,7 +306,7 @@ bool apcu_record_note(const cache_request *request, const zend_string *key, cons
 
 		write_event((event_in_ring *) to, request, key_len, len, answer);
 		to += sizeof(event_in_ring);
-		memcpy(to, name, key_len);
+		memcpy(to, key, key_len);
 		memcpy(to + key_len, text, text_len);
 		return append(position + size);
 	}
@@ -313,7 +314,7 @@ bool apcu_record_note(const cache_request *request, const zend_string *key, cons
 	/* It is in two pieces of the ring, or room is made for it. */
 	event_in_ring e;
 	write_event(&e, request, key_len, len, answer);
-	if (put(&position, &e, sizeof e) && put(&position, name, key_len) && put(&position, text, text_len)) {
+	if (put(&position, &e, sizeof e) && put(&position, key, key_len) && put(&position, text, text_len)) {
 		return append(position);
 	}
 	return message != NULL;
@@ -325,7 +326,7 @@ bool apcu_record_recover(bool is_remade)
 		return false;
 	}
 	if (all->is_taking) {
-		robust_mark_reset(&all->writer, &apcu_shm->lock);
+		robust_mark_reset(&all->writer, &shared_at->lock);
 		all->is_taking = false;
 	}
 	if (!is_remade || all->state != RECORDING) {
@@ -351,7 +352,7 @@ const char *apcu_record_write(void)
 			write_up_to(due);
 		}
 		due = 0;
-		robust_mark_release(&all->writer, &apcu_shm->lock);
+		robust_mark_release(&all->writer, &shared_at->lock);
 	}
 	told = message;
 	message = NULL;
@@ -361,13 +362,13 @@ const char *apcu_record_write(void)
 /* Writes what waits, unless another process does so. */
 static const char *flush(void)
 {
-	if (all->state == FAILED || !apcu_lock()) {
+	if (all->state == FAILED || !shared_lock()) {
 		return NULL;
 	}
 	if (all->written < appended()->end && !has_writer()) {
 		become_writer();
 	}
-	apcu_unlock();
+	shared_unlock();
 	return apcu_record_write();
 }
 
@@ -454,8 +455,8 @@ static bool write_head(uint64_t server)
 {
 	char head[RECORD_HEAD];
 	int len = snprintf(head, sizeof head, RECORD_NAME "server %016llx\nshm-size %llu\nslots %u\nttl %u\nvalues %d\n\n",
-		(unsigned long long) server, (unsigned long long) apcu_shm->shape.words * 8, apcu_shm->shape.slots,
-		apcu_shm->shape.ttl, is_with_values);
+		(unsigned long long) server, (unsigned long long) shared_at->shape.words * 8, shared_at->shape.slots,
+		shared_at->shape.ttl, is_with_values);
 	uint64_t position = 0;
 
 	put(&position, head, (size_t) len);
@@ -499,7 +500,7 @@ const char *apcu_record_start(const char *folder, bool has_values, uint64_t limi
 
 		is_prepared = is_prepared || pthread_atfork(NULL, NULL, note_child) == 0;
 		all = at == MAP_FAILED ? NULL : at;
-		if (!all || !is_prepared || !robust_mark_make(&all->writer, &apcu_shm->lock)) {
+		if (!all || !is_prepared || !robust_mark_make(&all->writer, &shared_at->lock)) {
 			why = "no memory";
 		} else if (!write_head(server)) {
 			why = strerror(errno);

@@ -22,7 +22,7 @@ bool apcu_record_is_on(void);
 
 /* Under the lock, before another process learns of the answer: appends an event. True if
  * apcu_record_write has something to do after the lock is released. */
-bool apcu_record_note(const cache_request *request, const zend_string *key, const char *bytes, size_t len,
+bool apcu_record_note(const cache_request *request, const char *key, size_t key_len, const char *bytes, size_t len,
 	const cache_answer *answer);
 
 /* Under the lock, if its last owner died; `is_remade`: an empty cache replaced the last one.

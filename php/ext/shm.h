@@ -1,69 +1,45 @@
 /* SPDX-License-Identifier: MIT */
-/* The memory that all processes of one fork share: a cache, the lock around its calls, and the locks
- * around callbacks of apcu_entry. */
+/* The memory that all processes of one fork share is capi/shared_cache.c's: a cache, and the lock around its calls.
+ * Here is what PHP adds: its own part of that memory, with the locks around callbacks of apcu_entry, and fetches of
+ * PHP strings. */
 #ifndef APCU_SHM_H
 #define APCU_SHM_H
 
 #include <time.h>
 
 #include "php.h"
-#include "cache_c.h"
-#include "lanes.h"
-#include "seats.h"
+#include "shared_host.h"
 
 /* Keys are spread over this many groups for apcu_entry. */
 #define APCU_ENTRY_GROUPS 64
 
-/* In cache lines by who writes them: each call that changes the cache writes the first, and few calls write the second,
- * which each call reads. */
+/* PHP's part of the shared memory. */
 typedef struct {
-	robust_lock lock;           /* one call of the cache at a time */
-	volatile bool is_busy;      /* a call that may change it is in progress */
-
-	_Alignas(64) volatile bool is_made; /* there is a cache */
-	cache_shape shape;
-	struct cache_view view;     /* of the cache as it is, for those that read in a lane */
-	uint8_t *cache;             /* the handle */
-	uint64_t *words;            /* the words to which the places of the cache's strings refer */
-
-	_Alignas(64) uint64_t remade; /* how often a process died in such a call, and the cache was recreated */
 	_Atomic uint64_t stamps;    /* how many stamps were given to values; it continues in a cache that is made later */
 	_Atomic uint64_t longest_entry; /* nanoseconds of the longest wait for a lock of apcu_entry */
 	time_t start_time;          /* when the cache was made or cleared, or the last expunge happened */
-	uint64_t expunges;          /* the number of expunges by then */
 	struct {
 		zend_ulong hash;
 		size_t len;
 		time_t t;
 		pid_t pid;
 	} last;                     /* the last store: process and key; only for apc.slam_defense */
-	size_t size, used;          /* bytes of the mapping, and of those that were allocated */
-	seats seats;                /* the processes that copy from them outside of the lock */
-	lanes lanes;                /* reads without the lock, and the uses that they noted */
 	struct {
 		robust_lock lock;           /* one callback of apcu_entry for keys of this group at a time */
 		_Atomic uint32_t waits_for; /* 1 + the group whose lock its owner waits for; 0: none */
 	} entry[APCU_ENTRY_GROUPS];
 } apcu_shared;
 
-/* Null if there is no cache in this process. */
-extern apcu_shared *apcu_shm;
-
-/* Whether a cache may have this shape. */
-bool apcu_shm_is_good(const cache_shape *shape);
+/* If there is a cache in this process (shared_at). */
+static zend_always_inline apcu_shared *apcu_shm(void)
+{
+	return (apcu_shared *) shared_own();
+}
 
 /* Maps memory and makes an empty cache of a good shape in it, which core dumps contain or do not.
  * False if the system has no memory, or no lock that processes share: then nothing is mapped.
  * `bytes` is the requested size. */
 bool apcu_shm_start(const cache_shape *shape, bool is_dumped, size_t *bytes);
-
-/* Unmaps it, only in this process. */
-void apcu_shm_stop(void);
-
-/* Takes the lock. False if there is no cache; then there is nothing to unlock. While it is held,
- * nothing may be called that can run PHP code, use PHP's memory or leave by a bailout. Signals wait. */
-bool apcu_lock(void);
-void apcu_unlock(void);
 
 /* Numbers for monitoring besides the cache's own counters, since the server started. */
 typedef struct {
@@ -87,8 +63,13 @@ void apcu_shm_note_entry_wait(uint64_t nanoseconds);
 /* A number that no other call returns in any process, from 1 on. It needs no lock. */
 uint64_t apcu_shm_stamp(void);
 
-/* One event of the cache, under the lock. The request has the hash of its key. */
-cache_answer apcu_ask(const cache_request *request, const zend_string *key, const char *bytes, size_t len);
+/* One event of the cache, between shared_lock and shared_unlock: there nothing may be called that can run PHP code, use
+ * PHP's memory or leave by a bailout. The request has the hash of its key. */
+static zend_always_inline cache_answer apcu_ask(const cache_request *request, const zend_string *key, const char *bytes,
+	size_t len)
+{
+	return shared_ask(request, (const uint8_t *) ZSTR_VAL(key), ZSTR_LEN(key), (const uint8_t *) bytes, len);
+}
 
 struct apcu_kept;
 
@@ -126,7 +107,10 @@ typedef struct {
 size_t apcu_read_many(apcu_looked_up *keys, size_t count, char *few, time_t t);
 
 /* In a lane or under the lock: copies the bytes of a string that was found. */
-void apcu_copy_found(uint32_t place, size_t len, char *out);
+static zend_always_inline void apcu_copy_found(uint32_t place, size_t len, char *out)
+{
+	memcpy(out, shared_at->words + place, len);
+}
 
 /* Whether PHP's hash of ASCII keys is the cache's. That of other keys differs if char has a sign. */
 extern bool apcu_has_hash_of_php;
@@ -161,31 +145,17 @@ static zend_always_inline uint64_t apcu_hash_of(const zend_string *key)
 	return cache_hash((const uint8_t *) ZSTR_VAL(key), ZSTR_LEN(key));
 }
 
-/* Strings of at least this length are not copied in a lane, but held; and if there are no lanes. From some 3,000 bytes
- * on a copy under the lock takes longer than a seat, even with one process. */
+/* Strings of at least this length are not copied in a lane, but held; without lanes those of SHARED_HELD. From some
+ * 3,000 bytes on a copy under the lock takes longer than a seat, even with one process. */
 #define APCU_LANE_MOST 65536
-#define APCU_HELD_FROM 4096
 
 static inline size_t apcu_lane_most(void)
 {
-	return apcu_shm->lock.is_mutex ? APCU_HELD_FROM : APCU_LANE_MOST;
+	return shared_at->lock.is_mutex ? SHARED_HELD : APCU_LANE_MOST;
 }
 
-/* A string that is copied after the lock was released; null bytes: there is none. Its bytes do not change
- * until it is released, whatever other processes store, delete or clear. */
-typedef struct {
-	const char *bytes;
-	size_t len;
-	uint64_t ticket;
-	unsigned seat;
-} apcu_held;
-
-/* One event under the lock: a look-up. A long string that it finds is held, except while calls are recorded,
- * while many others are held, and if its value is kept. */
-cache_answer apcu_look(zend_string *key, time_t t, apcu_held *held, struct apcu_kept **kept);
-
-/* Releases a string, outside of the lock. False if it was no longer held: what was read of it may belong
- * to other rows. This happens when the cache was recreated. */
-bool apcu_let_go(const apcu_held *held);
+/* One event under the lock: a look-up. A long string that it finds is held, to be copied after the lock was released
+ * (shared_let_go), except while calls are recorded, while many others are held, and if its value is kept. */
+cache_answer apcu_look(zend_string *key, time_t t, shared_text *held, struct apcu_kept **kept);
 
 #endif

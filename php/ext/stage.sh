@@ -1,7 +1,7 @@
 #!/bin/sh
 # SPDX-License-Identifier: MIT
-# Copies the source package of the extension into a folder: the extension, its tests, the headers and the assembly text
-# of the engine. phpize works there, and so does `pecl package`.
+# Copies the source package of the extension into a folder: the extension, its tests, the shared memory (capi), the
+# headers and the assembly text of the engine. phpize works there, and so does `pecl package`.
 #
 #   php/ext/stage.sh FOLDER
 #
@@ -21,7 +21,9 @@ mkdir -p "$1"
 mkdir -p "$1/tests" "$1/capi/engine"
 cp "$ext"/*.c "$ext"/*.h "$ext/engine.S" "$ext/apcu.stub.php" "$ext/config.m4" "$ext/Makefile.frag" "$1/"
 cp "$ext"/tests/*.phpt "$ext"/tests/*.inc "$1/tests/"
-cp "$top/capi/cache_c.h" "$top/capi/lanes.h" "$top/capi/robust_lock.h" "$top/capi/seats.h" "$top/capi/record_file.h" "$1/capi/"
+for file in cache_c.h lanes.h record_file.h robust_lock.h seats.h shared_cache.c shared_cache.h shared_host.h; do
+    cp "$top/capi/$file" "$1/capi/"
+done
 cp "$top"/capi/engine/*.s "$1/capi/engine/"
 cp "$top/LICENSE" "$top/CHANGELOG.md" "$1/"
 rm -f "$1/config.h" # of a build in the folder itself

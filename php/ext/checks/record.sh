@@ -256,18 +256,18 @@ check_many() {
 }
 
 check_builds() {
-    wrong uncounted shm.c '	if (UNEXPECTED(apcu_is_recorded) && apcu_record_note' '	static unsigned calls;
-	if (request->kind == CACHE_COUNT && answer.kind == CACHE_INT && ++calls % 50 == 0) {
-		cache_request back = *request;
-		back.number = 0 - back.number;
-		cache_ask(apcu_shm->cache, &back, (const uint8_t *) ZSTR_VAL(key), ZSTR_LEN(key), (const uint8_t *) "", 0);
-	}
-	if (UNEXPECTED(apcu_is_recorded) && apcu_record_note'
-    wrong outlived shm.c '	cache_answer answer = cache_ask_hashed(apcu_shm->cache, request,
-' '	cache_request late = *request;
-	late.t -= late.kind == CACHE_LOOK;
-	cache_answer answer = cache_ask_hashed(apcu_shm->cache, &late,
-'
+    wrong uncounted capi/shared_cache.c '    if (is_rare && shared_is_recorded())' '    static unsigned calls;
+    if (request->kind == CACHE_COUNT && answer.kind == CACHE_INT && ++calls % 50 == 0) {
+        cache_request back = *request;
+        back.number = 0 - back.number;
+        cache_ask(shared_at->cache, &back, key, key_len, bytes, len);
+    }
+    if (is_rare && shared_is_recorded())'
+    wrong outlived capi/shared_cache.c '    cache_answer answer =
+        is_rare ? cache_ask_hashed(shared_at->cache, request,' '    cache_request late = *request;
+    late.t -= late.kind == CACHE_LOOK;
+    cache_answer answer =
+        is_rare ? cache_ask_hashed(shared_at->cache, &late,'
 }
 
 [ $# -gt 2 ] && shift 2 || set -- calls proved kills suites shop load builds many costs
