@@ -258,18 +258,17 @@ static void note_expunges(uint32_t kind) {
     }
 }
 
-/* `is_rare`: it may be noted, or have null pointers. */
+/* The pointers are not null, and no length is 2^63 or more. */
 SHARED_INLINE cache_answer ask_event(const cache_request *request, const uint8_t *key,
                                      size_t key_len, const uint8_t *bytes, size_t len,
-                                     bool is_rare) {
+                                     bool is_noted) {
     /* A process that is killed in a call that changes nothing leaves the cache valid. */
     set_busy(request->kind != CACHE_EXISTS);
     if (SHARED_RARELY(shared_at->seats.taken != 0) && may_drop_rows(request->kind))
         seats_sweep(&shared_at->seats, shared_at->cache);
     cache_answer answer =
-        is_rare ? cache_ask_hashed(shared_at->cache, request, key, key_len, bytes, len)
-                : cache_ask_unchecked(shared_at->cache, request, key, key_len, bytes, len);
-    if (is_rare && shared_is_recorded())
+        cache_ask_unchecked(shared_at->cache, request, key, key_len, bytes, len);
+    if (is_noted)
         shared_note(request, key, key_len, bytes, len, &answer);
     if (SHARED_LIKELY(request->kind != CACHE_EXISTS))
         renew_view();
@@ -280,16 +279,28 @@ SHARED_INLINE cache_answer ask_event(const cache_request *request, const uint8_t
     return answer;
 }
 
-SHARED_APART cache_answer ask_rarely(const cache_request *request, const uint8_t *key,
-                                     size_t key_len, const uint8_t *bytes, size_t len) {
+/* An event that is noted. In a function of its own, so that another one keeps nothing for it. */
+SHARED_APART cache_answer ask_and_note(const cache_request *request, const uint8_t *key,
+                                       size_t key_len, const uint8_t *bytes, size_t len) {
     return ask_event(request, key, key_len, bytes, len, true);
+}
+
+ROBUST_SELDOM static cache_answer ask_null(const cache_request *request, const uint8_t *key,
+                                           size_t key_len, const uint8_t *bytes, size_t len) {
+    static const uint8_t none = 0;
+    if ((!key && key_len > 0) || (!bytes && len > 0))
+        return (cache_answer){.kind = CACHE_BAD};
+    if ((key_len | len) > SIZE_MAX / 2)
+        return (cache_answer){.kind = CACHE_TOO_LONG};
+    return shared_ask(request, key ? key : &none, key_len, bytes ? bytes : &none, len);
 }
 
 cache_answer shared_ask(const cache_request *request, const uint8_t *key, size_t key_len,
                         const uint8_t *bytes, size_t len) {
-    bool is_plain = key && bytes && (key_len | len) <= SIZE_MAX / 2;
-    if (SHARED_RARELY(!is_plain || shared_is_recorded()))
-        return ask_rarely(request, key, key_len, bytes, len);
+    if (SHARED_RARELY(!key || !bytes || (key_len | len) > SIZE_MAX / 2))
+        return ask_null(request, key, key_len, bytes, len);
+    if (SHARED_RARELY(shared_is_recorded()))
+        return ask_and_note(request, key, key_len, bytes, len);
     return ask_event(request, key, key_len, bytes, len, false);
 }
 

@@ -155,7 +155,7 @@ static inline size_t apcu_lane_most(void)
 }
 
 /* One event under the lock: a look-up. A long string that it finds is held, to be copied after the lock was released
- * (shared_let_go), except while calls are recorded, while many others are held, and if its value is kept. */
+ * (shared_let_go), except while many others are held, and if its value is kept. */
 cache_answer apcu_look(zend_string *key, time_t t, shared_text *held, struct apcu_kept **kept);
 
 #endif

@@ -256,18 +256,18 @@ check_many() {
 }
 
 check_builds() {
-    wrong uncounted capi/shared_cache.c '    if (is_rare && shared_is_recorded())' '    static unsigned calls;
+    wrong uncounted capi/shared_cache.c '    if (is_noted)' '    static unsigned calls;
     if (request->kind == CACHE_COUNT && answer.kind == CACHE_INT && ++calls % 50 == 0) {
         cache_request back = *request;
         back.number = 0 - back.number;
         cache_ask(shared_at->cache, &back, key, key_len, bytes, len);
     }
-    if (is_rare && shared_is_recorded())'
+    if (is_noted)'
     wrong outlived capi/shared_cache.c '    cache_answer answer =
-        is_rare ? cache_ask_hashed(shared_at->cache, request,' '    cache_request late = *request;
+        cache_ask_unchecked(shared_at->cache, request,' '    cache_request late = *request;
     late.t -= late.kind == CACHE_LOOK;
     cache_answer answer =
-        is_rare ? cache_ask_hashed(shared_at->cache, &late,'
+        cache_ask_unchecked(shared_at->cache, &late,'
 }
 
 [ $# -gt 2 ] && shift 2 || set -- calls proved kills suites shop load builds many costs
