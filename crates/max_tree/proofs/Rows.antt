@@ -15,7 +15,7 @@ front_set all count w v inside low =
     ap (take count) (set_front all count w v inside low) ∙ take_at (set (take count all) w v) (drop count all) count (omega (arith, length-set (take count all) w v, length-take count all))
 
 -- R is what a row and the next one satisfy; up gives the length of the next one; the last row has at most
--- `most` numbers. A is what a list of N such rows satisfies behind a first one of a given length.
+-- `most` numbers. A above count xs: the numbers of xs are a row of `count` of them and `above` rows behind it.
 pub record AreStacked (R : List ℕ → List ℕ → Type 0) (up : ℕ → ℕ) (most : ℕ) (A : ℕ → ℕ → List ℕ → Type 0) : Type 0 where
   pub last : (count : ℕ) (xs : List ℕ) → A zero count xs → (length xs ≡ count) × (count ≤ most)
   pub last_is : (count : ℕ) (xs : List ℕ) → length xs ≡ count → count ≤ most → A zero count xs
