@@ -38,10 +38,10 @@ static bool is_mapped(const void *at)
 		&& (const char *) at < (const char *) apcu_shm + apcu_shm->size;
 }
 
-/* Bytes of the mapping, at the start of a cache line. */
-static void *take(size_t size)
+/* Bytes of the mapping, of which byte number `first` is at the start of a cache line. */
+static void *take(size_t size, size_t first)
 {
-	size_t from = (apcu_shm->used + 63) / 64 * 64;
+	size_t from = (apcu_shm->used + first + 63) / 64 * 64 - first;
 
 	if (from > apcu_shm->size || size > apcu_shm->size - from) {
 		return NULL;
@@ -54,10 +54,12 @@ cache_tried rattle_alloc(size_t size, size_t align)
 {
 	switch (source) {
 		case FROM_MAPPING: {
-			void *at = align <= 64 ? take(size) : NULL;
-
 			/* The words come first, and nothing else of a cache is as large. */
-			if (!apcu_shm->words && size == (size_t) apcu_shm->shape.words * 8) {
+			bool is_words = !apcu_shm->words && size == (size_t) apcu_shm->shape.words * 8;
+			/* Rows follow the slots. One of 128 bytes, such as a counter's, is then in two cache lines, not in three. */
+			void *at = align <= 64 ? take(size, is_words ? (size_t) apcu_shm->shape.slots * 8 : 0) : NULL;
+
+			if (is_words) {
 				apcu_shm->words = at;
 				if (at && apcu_shm->cache) {
 					lanes_clear_words(at, size);
@@ -109,7 +111,7 @@ static void make(void)
 	apcu_shm->expunges = 0;
 
 	source = FROM_MAPPING;
-	uint8_t *at = take(cache_size());
+	uint8_t *at = take(cache_size(), 0);
 	bool is_made = at && cache_new(&apcu_shm->shape, at) == CACHE_MADE;
 	source = FROM_MALLOC;
 
