@@ -54,9 +54,9 @@ static bool is_mapped(const void *at) {
            (uintptr_t)at - (uintptr_t)shared_at < shared_at->size;
 }
 
-/* Bytes of the mapping, at the start of a cache line. */
-static void *take_bytes(size_t n) {
-    size_t from = whole_lines(shared_at->used);
+/* Bytes of the mapping, of which byte number `first` is at the start of a cache line. */
+static void *take_bytes(size_t n, size_t first) {
+    size_t from = whole_lines(shared_at->used + first) - first;
     if (from > shared_at->size || n > shared_at->size - from)
         return NULL;
     shared_at->used = from + n;
@@ -68,9 +68,12 @@ cache_tried rattle_alloc(size_t n, size_t align) {
         return given(NULL);
     if (source == FROM_MALLOC)
         return given(malloc(n ? n : 1));
-    void *at = align <= LINE_BYTES ? take_bytes(n) : NULL;
-    /* The words come first, and nothing else of a cache is as large. */
-    if (!shared_at->words && n == 8 * (size_t)shared_at->shape.words) {
+    /* The words come first, and nothing else of a cache is as large. Rows follow the slots, which end
+     * at a cache line: a row of 128 bytes, such as a counter's, is then in two lines, not in three. */
+    bool is_words = !shared_at->words && n == 8 * (size_t)shared_at->shape.words;
+    size_t slots = is_words ? 8 * (size_t)shared_at->shape.slots : 0;
+    void *at = align <= LINE_BYTES ? take_bytes(n, slots) : NULL;
+    if (is_words) {
         shared_at->words = at;
         if (at && shared_at->cache)
             lanes_clear_words(at, n);
@@ -115,7 +118,7 @@ static uint32_t make(void) {
     shared_at->expunges = 0;
 
     source = FROM_MAPPING;
-    uint8_t *cache = take_bytes(cache_size());
+    uint8_t *cache = take_bytes(cache_size(), 0);
     uint32_t made = cache ? cache_new(&shared_at->shape, cache) : CACHE_NO_ROOM;
     source = FROM_MALLOC;
 

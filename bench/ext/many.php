@@ -5,6 +5,7 @@
 //   churn   stores of new rows of 16 to 2,000 bytes in a cache that is kept four fifths full: before each, rows that are
 //           drawn at random are deleted until it finds room below that
 //   leave   all rows dropped by a clear, and all expired rows dropped by a store that needs their room
+//   stay    expired rows dropped by a store that needs their room, while one of ten rows, then one of two, has not expired
 //   info    the calls that return information about the cache, when each tenth row has left a gap
 
 declare(strict_types=1);
@@ -19,14 +20,22 @@ function timed(callable $call): int
     return hrtime(true) - $begun;
 }
 
-/** Stores ROWS rows, and returns their keys. */
-function fill(int $rows, int $ttl): array
+/** Stores ROWS rows, and returns their keys. One of STAY has no ttl. */
+function fill(int $rows, int $ttl, int $stay = PHP_INT_MAX): array
 {
     for ($i = 0; $i < $rows; $i++) {
         $keys[] = $key = 'k' . (1000000 + $i);
-        apcu_store($key, $i % 2 ? 'xxxxxxxx' : $i, $ttl);
+        apcu_store($key, $i % 2 ? 'xxxxxxxx' : $i, $i % $stay === $stay - 1 ? 0 : $ttl);
     }
     return $keys;
+}
+
+/** Stores texts until less than 200,000 bytes are free. */
+function fill_rest(int $ttl): void
+{
+    while (($left = (int) apcu_sma_info(true)['avail_mem']) > 200000) {
+        apcu_store("rest$left", str_repeat('z', intdiv($left - 100000, 2)), $ttl);
+    }
 }
 
 function churn(int $stores): void
@@ -67,13 +76,28 @@ function leave(int $rows): void
     fill($rows, 0);
     printf("%d %s rows dropped by a clear\n", timed(apcu_clear_cache(...)), number_format($rows));
     fill($rows, 1);
-    // Texts that never expire, until less than 200,000 bytes are free.
-    while (($left = (int) apcu_sma_info(true)['avail_mem']) > 200000) {
-        apcu_store("rest$left", str_repeat('z', intdiv($left - 100000, 2)));
-    }
+    fill_rest(0);
     sleep(3);
     $took = timed(fn() => apcu_store('new', str_repeat('z', 300000)));
     printf("%d %s expired rows dropped by a store\n", $took, number_format($rows - apcu_cache_info(true)['num_entries']));
+}
+
+function stay(int $rows): void
+{
+    foreach ([10, 2] as $stay) {
+        fill($rows, 1, $stay);
+        // The rest expires, too: APCu drops all rows if half of its memory is not free after it has dropped the expired ones.
+        fill_rest(1);
+        sleep(3);
+        $took = timed(fn() => apcu_store('new', str_repeat('z', 300000)));
+        $kept = intdiv($rows, $stay);
+        if (apcu_cache_info(true)['num_entries'] != $kept + 1) {
+            fwrite(STDERR, "another number of rows was kept\n");
+            exit(1);
+        }
+        printf("%d %s expired rows dropped by a store, %s kept\n", $took, number_format($rows - $kept), number_format($kept));
+        apcu_clear_cache();
+    }
 }
 
 function info(int $rows): void

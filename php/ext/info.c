@@ -76,28 +76,55 @@ void apcu_rows_free(apcu_rows *list)
 	efree(list->keys);
 }
 
-bool apcu_rows_add(apcu_rows *list, uint32_t slot)
+/* The number of slots that are listed before their keys are copied: then the processor's cache still has the rows. */
+#define SLOTS_AT_ONCE 64
+
+/* Under the lock: copies the keys of rows that follow those of the list, as far as there is room for all keys of a
+ * slot. The number of these rows. */
+static size_t copy_row_keys(apcu_rows *list, size_t count)
 {
-	uint64_t count = cache_list_rows(shared_at->cache, slot, 0, list->rows + list->count, list->room - list->count);
-	size_t used = list->used;
+	const cache_row *first = list->rows + list->count, *row = first, *end = first + count;
 
-	/* As many as there is room for may not be all. */
-	list->lacks_keys = count != list->room - list->count;
-	if (!list->lacks_keys) {
-		return false;
+	for (; row < end && row->key_len <= list->size - list->used; row++) {
+		memcpy(list->keys + list->used, shared_at->words + row->key_place, row->key_len);
+		list->used += row->key_len;
 	}
-	for (uint64_t i = 0; i < count; i++) {
-		const cache_row *row = &list->rows[list->count + i];
-
-		if (row->key_len > list->size - used) {
-			return false;
+	if (row < end) {
+		for (; row > first && row[-1].slot == row->slot; row--) {
+			list->used -= row[-1].key_len;
 		}
-		memcpy(list->keys + used, shared_at->words + row->key_place, row->key_len);
-		used += row->key_len;
 	}
-	list->count += count;
-	list->used = used;
-	return true;
+	return (size_t) (row - first);
+}
+
+uint32_t apcu_rows_add(apcu_rows *list, uint32_t slot, uint32_t end, size_t wanted)
+{
+	size_t most = wanted < list->room ? wanted : list->room;
+
+	list->lacks_keys = false;
+	while (slot < end && list->count < wanted) {
+		uint32_t to = end - slot < SLOTS_AT_ONCE ? end : slot + SLOTS_AT_ONCE;
+		cache_row *rows = list->rows + list->count;
+		struct cache_listing listing;
+		size_t copied;
+
+		cache_list_slots(shared_at->cache, slot, to, rows, most - list->count, &listing);
+		if (listing.next == slot) {
+			/* With its rows there are more than are wanted. */
+			cache_list_slots(shared_at->cache, slot, slot + 1, rows, list->room - list->count, &listing);
+		}
+		copied = copy_row_keys(list, (size_t) listing.count);
+		list->count += copied;
+		if (copied < listing.count) {
+			list->lacks_keys = true;
+			return rows[copied].slot;
+		}
+		if (listing.next == slot) {
+			return slot;
+		}
+		slot = listing.next;
+	}
+	return slot;
 }
 
 void apcu_rows_grow(apcu_rows *list)
@@ -145,9 +172,6 @@ static bool copy_keys(all_rows *all, size_t count)
 	all->count += count;
 	return true;
 }
-
-/* The number of slots that are listed before their keys are copied: then the processor's cache still has the rows. */
-#define SLOTS_AT_ONCE 64
 
 /* Under the lock, with room for all rows. False if there is no memory for their keys. */
 static bool copy_all(all_rows *all, size_t room)

@@ -122,7 +122,6 @@ static void free_object(zend_object *object)
 static bool list_some(apcu_iterator *it, apcu_rows *list, size_t wanted)
 {
 	while (it->slot < it->end) {
-		bool is_room = true;
 		uint32_t end = it->end - it->slot < SLOTS_AT_ONCE ? it->end : it->slot + SLOTS_AT_ONCE;
 
 		list->count = list->used = 0;
@@ -130,18 +129,12 @@ static bool list_some(apcu_iterator *it, apcu_rows *list, size_t wanted)
 			it->slot = it->end;
 			return false;
 		}
-		while (it->slot < end && list->count < wanted) {
-			is_room = apcu_rows_add(list, it->slot);
-			if (!is_room) {
-				break;
-			}
-			it->slot++;
-		}
+		it->slot = apcu_rows_add(list, it->slot, end, wanted);
 		shared_unlock();
 		if (list->count > 0) {
 			return true;
 		}
-		if (!is_room) {
+		if (it->slot < end) {
 			apcu_rows_grow(list);
 		}
 	}
@@ -192,11 +185,17 @@ static bool matches(const search *s, const char *key, size_t len)
 	return !s->keys || zend_hash_str_exists(s->keys, key, len);
 }
 
-/* A row as it is now, and its value; nothing is counted. False if it was dropped. */
+/* The value of a row that was listed, and of a string the row as it is now; nothing is counted. False if it was
+ * dropped. */
 static bool peek(zend_string *key, cache_row *row, zval *value)
 {
 	zend_string *text = NULL;
 
+	if (row->value.kind != CACHE_STR) {
+		ZVAL_NULL(value);
+		apcu_unpack(value, &row->value, NULL, NULL);
+		return true;
+	}
 	for (;;) {
 		size_t room = row->value.kind == CACHE_STR ? row->value.len : 0;
 		bool is_room = true;

@@ -214,9 +214,10 @@ typedef struct {
 void apcu_rows_start(apcu_rows *list, size_t room, size_t size);
 void apcu_rows_free(apcu_rows *list);
 
-/* Under the lock: adds all rows of a slot. False if there is no room for them all; then none was
- * added, and apcu_rows_grow, outside the lock, makes more. */
-bool apcu_rows_add(apcu_rows *list, uint32_t slot);
+/* Under the lock: adds all rows of each slot from `slot` on, up to `end`, until there are `wanted` or more. The first
+ * slot whose rows were not added; if there are fewer rows and it is not `end`, there was no room for its rows, and
+ * apcu_rows_grow, outside the lock, makes more. */
+uint32_t apcu_rows_add(apcu_rows *list, uint32_t slot, uint32_t end, size_t wanted);
 void apcu_rows_grow(apcu_rows *list);
 
 void apcu_info_print(void);
