@@ -1,5 +1,5 @@
-//! Tests of `apcu_play`: worked runs, each way in which a run can fail, and workers that are held
-//! at points of their scripts.
+//! Tests of `apcu_play`: the program's options, worked runs, each way in which a run can fail, and
+//! workers that are held at points of their scripts.
 #![tactic(auto)]
 
 #[cfg(test)]
@@ -23,6 +23,8 @@ mod laws;
 #[cfg(test)]
 mod makers;
 #[cfg(test)]
+mod options;
+#[cfg(test)]
 mod pieces;
 #[cfg(test)]
 mod room_rows;
@@ -30,6 +32,8 @@ mod room_rows;
 mod rows;
 #[cfg(test)]
 mod runs;
+#[cfg(test)]
+mod tasks;
 #[cfg(test)]
 mod threads;
 #[cfg(test)]

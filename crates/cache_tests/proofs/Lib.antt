@@ -1,3 +1,2 @@
 mod OpenWindows
 mod TwoHeldBlocks
-mod WindowFacts

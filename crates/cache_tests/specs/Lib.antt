@@ -1,2 +1,1 @@
 pub mod TwoHolders
-pub mod UnheldCaches

@@ -1,5 +1,5 @@
-//! Tests of the cache over words: its calls, counters, entries and iterators, its statistics, and
-//! the marks of journals that are played on it, each against the plain cache.
+//! Tests of the cache over words: its calls, counters, entries and statistics, each against the
+//! plain cache.
 #![tactic(auto)]
 
 #[cfg(test)]
@@ -18,24 +18,6 @@ mod held;
 mod info_draws;
 #[cfg(test)]
 mod info_small;
-#[cfg(test)]
-mod iterators;
-#[cfg(test)]
-mod map_held;
-#[cfg(test)]
-mod maps;
-#[cfg(test)]
-mod mark_both;
-#[cfg(test)]
-mod mark_draws;
-#[cfg(test)]
-mod mark_held;
-#[cfg(test)]
-mod mark_random;
-#[cfg(test)]
-mod mark_requests;
-#[cfg(test)]
-mod marks;
 #[cfg(test)]
 mod pair;
 #[cfg(test)]

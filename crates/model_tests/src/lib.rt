@@ -1,12 +1,13 @@
-//! Tests of the cache as it is defined, and of reading and printing: the plain cache, lists and
-//! journals, the program's options; scripts, bundles and calls of pools, correct and faulty; the
-//! requests of a worker and the output for its replies. Laws are called here too.
+//! Tests of the cache as it is defined, and of reading: the plain cache, lists and journals;
+//! scripts, bundles and calls of pools, correct and faulty. Laws are called here too.
 #![tactic(auto)]
 
 #[cfg(test)]
 mod asked;
 #[cfg(test)]
 mod bundle_faults;
+#[cfg(test)]
+mod bundle_laws;
 #[cfg(test)]
 mod bundles;
 #[cfg(test)]
@@ -26,8 +27,6 @@ mod loaders;
 #[cfg(test)]
 mod moments;
 #[cfg(test)]
-mod options;
-#[cfg(test)]
 mod play;
 #[cfg(test)]
 mod pool_calls;
@@ -40,12 +39,4 @@ mod pool_names;
 #[cfg(test)]
 mod reading;
 #[cfg(test)]
-mod rendered;
-#[cfg(test)]
-mod replies;
-#[cfg(test)]
-mod script_laws;
-#[cfg(test)]
 mod shapes;
-#[cfg(test)]
-mod tasks;

@@ -3,7 +3,7 @@ use Rattle.seg_words.specs.Kept.{KeptBeside}
 use Rattle.entry_slots.specs.Lists.{first_place}
 use Rattle.entry_slots.specs.Entries.{chain_of}
 use Rattle.entry_slots.specs.Standing.{Stand, entries}
-use Rattle.block_tests.proofs.slot_calls.drop_slot.Given as goal
+use Rattle.shared_tests.proofs.slot_calls.drop_slot.Given as goal
 
 abbrev pub invariant-loop-at : goal.invariant-loop-at
 invariant-loop-at g l = record {

@@ -1,6 +1,6 @@
 use Rattle.std.proofs.Common.{arith}
 use Rattle.apcu_model.specs.Conf.{good_one, usable_of}
-use Rattle.block_tests.proofs.slots.small.Goals as goal
+use Rattle.shared_tests.proofs.slots.small.Goals as goal
 
 pub returns-clause-usable : goal.returns-clause-usable
 returns-clause-usable c =

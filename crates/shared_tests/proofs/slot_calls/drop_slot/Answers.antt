@@ -1,7 +1,7 @@
 use Rattle.std.proofs.Common.{length, sym, ap, ◌∙◌, arith}
 use Rattle.entry_slots.specs.Entries.{chain_of, removed_at}
 use Rattle.entry_slots.specs.Standing.{entries}
-use Rattle.block_tests.proofs.slot_calls.drop_slot.Goals as goal
+use Rattle.shared_tests.proofs.slot_calls.drop_slot.Goals as goal
 
 pub unlink-requires-clause-there : goal.unlink-requires-clause-there
 unlink-requires-clause-there g c =

@@ -8,10 +8,9 @@ ghost use Rattle.entry_slots.specs.Lists.{has_place};
 ghost use Rattle.entry_slots.specs.Entries.{listed};
 ghost use Rattle.entry_slots.specs.Standing.{entries};
 ghost use Rattle.cache_core.specs.CoreCache.{CacheStands};
-ghost use Rattle.cache_tests.specs.UnheldCaches.{Rests};
+ghost use Rattle.shared_tests.specs.UnheldCaches.{Rests};
 
-use crate::asking::string;
-use crate::maps::ONE;
+use crate::meeting::{CONF, letters};
 use apcu_model::{Conf, StoreAnswer};
 use cache_core::Core;
 use entry_slots::{place_laws, window_laws};
@@ -63,7 +62,7 @@ struct Held {
 impl Model for Held {
     ghost use Rattle.apcu_model.specs.Cache.{Cache};
     ghost use Rattle.cache_core.specs.CoreCache.{cache_of};
-    ghost use Rattle.cache_tests.specs.UnheldCaches.{Rests};
+    ghost use Rattle.shared_tests.specs.UnheldCaches.{Rests};
 
     ghost Value = { Cache };
 
@@ -141,11 +140,11 @@ enum Act {
 fn is_done(rt: &impl Abort, alloc: Global, held: &mut Held, act: Act) -> Result<bool, Fail> {
     match act {
         Act::Put(key, len) => {
-            let value = string(rt, alloc, len)?;
+            let value = letters(rt, alloc, len)?;
             Ok(held.store(key, &value))
         }
         Act::ReplaceHeld(key, len) => {
-            let value = string(rt, alloc, len)?;
+            let value = letters(rt, alloc, len)?;
             Ok(held.replace_held(key, &value))
         }
         Act::Delete(key) => Ok(held.delete(key)),
@@ -155,8 +154,8 @@ fn is_done(rt: &impl Abort, alloc: Global, held: &mut Held, act: Act) -> Result<
 
 // The map after these actions, and how many blocks of 16 words fit.
 fn tells(rt: &impl Abort, alloc: Global, acts: &[Act], map: &str, fits: u32) -> Result<(), Fail> {
-    assert!(rt; ONE.usable());
-    let mut held = Held::new(alloc, &ONE)?;
+    assert!(rt; CONF.usable());
+    let mut held = Held::new(alloc, &CONF)?;
     for act in acts {
         assert!(rt; is_done(rt, alloc, &mut held, *act)?);
     }

@@ -1,6 +1,6 @@
 use Rattle.seg_words.specs.contracts.held_words.HeldWordsWordsIn.TheImpl.{ghosts}
-use Rattle.cache_tests.proofs.WindowFacts.{free_begun}
-use Rattle.cache_tests.proofs.map_held.begin_free.Goals as goal
+use Rattle.shared_tests.proofs.WindowFacts.{free_begun}
+use Rattle.shared_tests.proofs.map_held.begin_free.Goals as goal
 
 pub returns-clause-rests : goal.returns-clause-rests
 returns-clause-rests c =

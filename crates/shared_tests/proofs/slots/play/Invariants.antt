@@ -1,6 +1,6 @@
 use Rattle.seg_words.specs.Kept.{KeptBeside}
 use Rattle.entry_slots.specs.Standing.{Stand}
-use Rattle.block_tests.proofs.slots.play.Given as goal
+use Rattle.shared_tests.proofs.slots.play.Given as goal
 
 abbrev pub invariant-loop-i : goal.invariant-loop-i
 invariant-loop-i g l = record {

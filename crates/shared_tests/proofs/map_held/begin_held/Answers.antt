@@ -1,6 +1,6 @@
 use Rattle.seg_words.specs.contracts.held_words.HeldWordsWordsIn.TheImpl.{ghosts}
-use Rattle.cache_tests.proofs.WindowFacts.{held_begun}
-use Rattle.cache_tests.proofs.map_held.begin_held.Goals as goal
+use Rattle.shared_tests.proofs.WindowFacts.{held_begun}
+use Rattle.shared_tests.proofs.map_held.begin_held.Goals as goal
 
 pub returns-clause-stand : goal.returns-clause-stand
 returns-clause-stand c =

@@ -12,7 +12,7 @@ use Rattle.entry_slots.specs.Standing.{Stands, entries}
 use Rattle.entry_slots.specs.Facts.{OnlyClose, OnlyOpensAt}
 use Rattle.cache_core.specs.declared.cache.Core.{Core}
 use Rattle.cache_core.specs.CoreCache.{CacheStands}
-use Rattle.cache_tests.specs.UnheldCaches.{Rests}
+use Rattle.shared_tests.specs.UnheldCaches.{Rests}
 
 has_zero : (n at : ℕ) → has at (replicate n 0) ≡ true → at ≡ 0
 has_zero zero at t = absurd (false≢true t)

@@ -4,9 +4,8 @@ ghost use Rattle.std.specs.Prelude.{◌≡◌, ◌≤◌, false, length, IfOk};
 ghost use Rattle.apcu_model.specs.Levels.{most_levels};
 ghost use Rattle.apcu_model.specs.Sequential.{is_iteration};
 
-use crate::values::{Value, key, value_of};
 use apcu_model::{Gen, Request, integer};
-use php_graph::{Bytes, Graph};
+use php_graph::{Builder, Bytes, Graph, Item, Wants};
 use std::alloc::Global;
 use std::boxed::Box;
 use std::process::Abort;
@@ -37,6 +36,22 @@ pub(crate) enum Act {
     Retire,
 }
 
+// The key of this number.
+const fn key(name: u8) -> [u8; 3] {
+    [b'k', b'0' + name / 10 % 10, b'0' + name % 10]
+}
+
+// A string of this many bytes `z`.
+fn letters(rt: &impl Abort, alloc: Global, count: usize) -> Result<Graph, Fail> {
+    assert!(rt; count < 1 << 20);
+    let item = Item::Str(Bytes::from_vec(vec![in alloc; b'z'; count]?));
+    let mut builder = Builder::new(alloc);
+    assert!(rt; builder.wants().permits(&item));
+    builder.push(item)?;
+    assert!(rt; builder.wants() == Wants::Done);
+    Ok(builder.seal())
+}
+
 fn store(key: Bytes, value: Graph, ttl: u32, exclusive: bool) -> Request
     ensures { is_iteration result ≡ false }
 {
@@ -60,7 +75,7 @@ pub(crate) fn request_of(
     let key = Bytes::of(alloc, &key(name))?;
     match act {
         Act::Put(n, ttl) => Ok(store(key, integer(alloc, n), ttl, false)),
-        Act::Text(len, ttl) => Ok(store(key, value_of(rt, alloc, Value::Text(len))?, ttl, false)),
+        Act::Text(len, ttl) => Ok(store(key, letters(rt, alloc, len)?, ttl, false)),
         Act::Add(n) => Ok(store(key, integer(alloc, n), 0, true)),
         Act::Fetch => Ok(Request::Fetch(key)),
         Act::Exists => Ok(Request::Exists(key)),

@@ -4,7 +4,7 @@ ghost use Rattle.std.specs.Prelude.{◌≡◌, ℕ, ◌+◌, ◌<◌, ◌≤◌,
 ghost use Rattle.std.specs.Prelude.{Some, None, IfOk, IfSome};
 ghost use Rattle.pin_table.specs.Pins.{MayPin, content_of};
 ghost use Rattle.pin_table.specs.Lists.{first_passes, first_pass};
-ghost use Rattle.block_tests.specs.Pinned.{one_block};
+ghost use Rattle.shared_tests.specs.Pinned.{one_block};
 
 use apcu_model::Ask;
 use pin_table::{Copying, Ended, Pass, Passes, PinTable, WriterSeat, rule_laws};

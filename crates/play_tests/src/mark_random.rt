@@ -1,8 +1,7 @@
 //! Random requests of several workers, in events with empty masks, judged by the plain cache.
 
-use crate::draws::{Draw, Kinds};
 use crate::mark_both::Both;
-use crate::mark_draws::act_of;
+use crate::mark_draws::{act_of, next};
 use crate::mark_requests::Act;
 use apcu_model::Conf;
 use std::alloc::Global;
@@ -48,16 +47,13 @@ fn answers_each_kind(rt: HostRuntime) -> Result<(), Fail> {
 // This many requests, and then all information.
 fn many(rt: &impl Abort, alloc: Global, conf: &Conf, requests: u32) -> Result<(), Fail> {
     let mut both = Both::new(rt, alloc, conf)?;
-    let mut draw = Draw::new(u64::from(conf.ttl).wrapping_add(11));
+    let mut bits = u64::from(conf.ttl).wrapping_add(11);
+    let mut t = 100u64;
     for request in 0..requests {
-        draw = draw.next();
-        both.ask(
-            rt,
-            request % 5,
-            draw.name(Kinds::Core),
-            act_of(draw),
-            draw.t,
-        )?;
+        bits = next(bits);
+        t = t.wrapping_add((bits >> 60) % 2);
+        let name = ((bits >> 33) % 40) as u8;
+        both.ask(rt, request % 5, name, act_of(bits), t)?;
     }
     both.ask(rt, 0, 0, Act::CacheInfo(false), 0)?;
     both.ask(rt, 0, 0, Act::SmaInfo(false), 0)
