@@ -52,7 +52,7 @@ pub(crate) enum Act {
     Cas(i64, i64),
 }
 
-pub(crate) fn string(rt: &impl Abort, alloc: Global, len: usize) -> Result<Graph, Fail> {
+fn string(rt: &impl Abort, alloc: Global, len: usize) -> Result<Graph, Fail> {
     assert!(rt; len < 1 << 20);
     let item = Item::Str(Bytes::from_vec(vec![in alloc; b'z'; len]?));
     let mut builder = Builder::new(alloc);

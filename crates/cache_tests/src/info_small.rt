@@ -3,15 +3,13 @@
 ghost use Rattle.apcu_model.specs.Conf.{IsUsable};
 
 use crate::asking::{answer_of, flag};
-use apcu_model::{Conf, Counts, Request, StoreAnswer};
+use apcu_model::{Conf, Counts, Request};
 use cache_core::Core;
 use cache_info::{cache_info, key_info, sma_info};
 use counter_entry::{IncAnswer, cas, inc};
 use late_words::LateWords;
 use max_tree::MaxRow;
-use notation::ByteOut;
 use php_graph::{Bytes, Graph};
-use seg_report::{fits, map_text};
 use seg_words::WordsIn;
 use std::alloc::{AllocError, Global};
 use std::marker::Model;
@@ -99,22 +97,5 @@ impl Small {
             Request::SmaInfo(limited) => Ok(Some(self.segment(alloc, *limited)?)),
             _ => Ok(None),
         }
-    }
-
-    // Stores a value under a key of one letter.
-    pub(crate) fn store(&mut self, key: u8, value: &Graph) -> StoreAnswer {
-        self.core.store(&mut self.words, &[key], value, 0, false, 0)
-    }
-
-    pub(crate) fn delete(&mut self, key: u8) -> bool {
-        self.core.delete(&mut self.words, &[key], 0)
-    }
-
-    pub(crate) fn map(&mut self, out: &mut ByteOut) -> Result<(), AllocError> {
-        map_text(&mut self.core, &mut self.words, out)
-    }
-
-    pub(crate) fn fits_of_16(&mut self) -> u32 {
-        fits(&mut self.core, &mut self.words, 16)
     }
 }

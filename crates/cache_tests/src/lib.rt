@@ -1,5 +1,5 @@
-//! Tests of the cache over words: its calls, counters and entries, its statistics and its map, each
-//! against the plain cache.
+//! Tests of the cache over words: its calls, counters, entries and statistics, each against the
+//! plain cache.
 #![tactic(auto)]
 
 #[cfg(test)]
@@ -18,8 +18,6 @@ mod held;
 mod info_draws;
 #[cfg(test)]
 mod info_small;
-#[cfg(test)]
-mod maps;
 #[cfg(test)]
 mod pair;
 #[cfg(test)]

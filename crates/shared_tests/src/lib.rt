@@ -1,6 +1,6 @@
 //! Tests of `shared_cache` through its public functions: workers that meet, their copies and
 //! replies, iterators, and what is left in the end. Tests of what it consists of: the table of
-//! pinned blocks, entries with their chains, and the map of rows that are still copied.
+//! pinned blocks, entries with their chains, and the map of its words.
 #![tactic(auto)]
 
 #[cfg(test)]
@@ -17,6 +17,8 @@ mod infos;
 mod iterators;
 #[cfg(test)]
 mod map_held;
+#[cfg(test)]
+mod maps;
 #[cfg(test)]
 mod meeting;
 #[cfg(test)]
