@@ -52,7 +52,7 @@ SUBJECTS = {
     "Options": "conf_read/Options conf_read/Numbers conf_read/Tasks conf_read/Command",
     "Generated runs": "crew_play/GeneratedRuns play_laws/Observer play_laws/Summary "
         "script_read/GeneratedScripts",
-    "Verdicts": "run_verify/Verdicts run_verify/ReadPatterns",
+    "Verdicts": "run_verify/Verdicts script_search/ReadPatterns",
     "Maps": "seg_report/Lines seg_report/Parts seg_report/Fits entry_slots/Lists sma_blocks/Live",
     "Other tasks, faults and statuses": "apcu_play/Run apcu_play/Tasks apcu_play/Message script_read/Gives script_read/Reading "
         "preload_set/Gives preload_set/Reading notation/Reading notation/Marks notation/Place io_edges/Reading "

@@ -12,7 +12,7 @@ use Rattle.reply_text.specs.Output.{journal_lines}
 use Rattle.seg_report.specs.Lines.{map_text}
 use Rattle.run_verify.specs.declared.verifying.Verdict.{Verdict}
 use Rattle.run_verify.specs.Verdicts.{verdict_of}
-use Rattle.run_verify.specs.ReadPatterns.{AreReadable}
+use Rattle.script_search.specs.ReadPatterns.{AreReadable}
 use Rattle.apcu_play.specs.declared.status.Status.{Status}
 use Rattle.apcu_play.specs.Tasks.{LoadsFirst, played_text, verdict_text, ending_for}
 

@@ -21,7 +21,7 @@ use Rattle.play_laws.specs.Summary.{Summary, summary_text}
 use Rattle.run_verify.specs.declared.verifying.Verdict.{Verdict}
 use Rattle.run_verify.specs.declared.verifying.Verdict.TheVariants.{Yes, NoJournal, Event, Byte}
 use Rattle.run_verify.specs.Verdicts.{verdict_of}
-use Rattle.run_verify.specs.ReadPatterns.{AreReadable}
+use Rattle.script_search.specs.ReadPatterns.{AreReadable}
 use Rattle.seg_report.specs.Lines.{map_text}
 use Rattle.crew_play.specs.PlayedScripts.{ComeFirst}
 use Rattle.crew_play.specs.GeneratedRuns.{IsWatched}

@@ -9,7 +9,7 @@ ghost use Rattle.script_read.specs.Patterns.{SomeRefusable};
 ghost use Rattle.crew_play.specs.declared.play.CrewFault.TheVariants.{TooMany, Pattern};
 ghost use Rattle.reply_text.specs.Output.{worker_texts};
 ghost use Rattle.run_verify.specs.Verdicts.{verdict_of};
-ghost use Rattle.run_verify.specs.ReadPatterns.{AreReadable};
+ghost use Rattle.script_search.specs.ReadPatterns.{AreReadable};
 ghost use Rattle.apcu_play.specs.Printing.{PrintsVerdict};
 ghost use Rattle.apcu_play.specs.Tasks.{ending_for, verdict_text};
 

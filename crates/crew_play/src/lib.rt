@@ -11,7 +11,6 @@ mod cast;
 mod crew;
 mod generated;
 mod order;
-mod patterns;
 mod play;
 
 pub use generated::{Watched, play_generated};

@@ -5,6 +5,7 @@ ghost use Rattle.std.specs.Prelude.{Contains, Ok, Err, IfOk, IfErr, IfSome, is_s
 ghost use Rattle.apcu_model.specs.Conf.{IsGood};
 ghost use Rattle.pin_table.specs.Lists.{AllOf, known_list};
 ghost use Rattle.pin_table.specs.Views.{has_worker};
+ghost use Rattle.row_search.specs.declared.maker.SearchFault.TheVariants as searching;
 ghost use Rattle.script_read.specs.Budgets.{budgets_of, all_events, most_events};
 ghost use Rattle.script_read.specs.Clock.{all_timed};
 ghost use Rattle.script_read.specs.Patterns.{SomeRefusable};
@@ -17,15 +18,15 @@ ghost use Rattle.worker_play.specs.declared.script.PlayFault.TheVariants as faul
 use crate::budgets::budgets;
 use crate::cast::Cast;
 use crate::order::{Order, play_all};
-use crate::patterns::try_patterns;
 use apcu_model::{Clock, Conf, Counts, Journal};
 use cache_core::Core;
 use io_edges::Gate;
 use notation::ByteOut;
 use pin_table::{EndedList, TableName};
 use play_laws::{histories_are_plays, one_event_own};
-use row_search::Maker;
+use row_search::{Maker, SearchFault};
 use script_read::Scripts;
+use script_search::try_patterns;
 use seg_words::VecWords;
 use shared_cache::{Closed, Fresh, Shared, open_cache};
 use std::alloc::{AllocError, Global};
@@ -50,6 +51,18 @@ impl From<AllocError> for CrewFault {
 
     fn from(_e: AllocError) -> CrewFault {
         CrewFault::Memory
+    }
+}
+
+impl From<SearchFault> for CrewFault {
+    ghost from_gives = { λ fault e.
+        (e ≢ TooMany) × (e ≡ Pattern → fault ≢ searching.Memory) };
+
+    fn from(fault: SearchFault) -> CrewFault {
+        match fault {
+            SearchFault::BadPattern | SearchFault::TooBig => CrewFault::Pattern,
+            SearchFault::Memory => CrewFault::Memory,
+        }
     }
 }
 

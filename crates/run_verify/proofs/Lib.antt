@@ -11,7 +11,6 @@ pub mod Games
 pub mod YesVerdicts
 pub mod JudgedLines
 pub mod ExampleVerdicts
-pub mod ReadablePatterns
 pub mod GameSeats
 pub mod TimedScripts
 pub mod PoolAsks

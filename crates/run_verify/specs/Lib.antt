@@ -5,4 +5,3 @@ pub mod Seats
 pub mod Marks
 pub mod Games
 pub mod JudgedOutputs
-pub mod ReadPatterns

@@ -9,14 +9,13 @@ ghost use Rattle.script_read.specs.Clock.{all_timed};
 ghost use Rattle.script_read.specs.Patterns.{SomeRefusable};
 ghost use Rattle.run_verify.specs.Verdicts.{verdict_of, journal_part, byte_verdict};
 ghost use Rattle.run_verify.specs.Verdicts.{first_difference};
-ghost use Rattle.run_verify.specs.ReadPatterns.{AreReadable};
+ghost use Rattle.script_search.specs.ReadPatterns.{AreReadable};
 ghost use Rattle.run_verify.specs.declared.fault.VerifyFault.TheVariants.{Pattern};
 
 use crate::comparing::difference;
 use crate::fault::VerifyFault;
 use crate::game_so_far::{GameSoFar, Unplayed};
 use crate::marks::play_mark;
-use crate::patterns::try_patterns;
 use crate::reading::{journal_at, line_end, read_mark};
 use crate::seats::{all_done, into_texts, seats_for};
 use apcu_model::{Clock, Conf};
@@ -24,6 +23,7 @@ use mark_play::Replay;
 use notation::ByteOut;
 use row_search::Maker;
 use script_read::{Scripts, event_count};
+use script_search::try_patterns;
 use std::alloc::Global;
 use std::marker::Model;
 
