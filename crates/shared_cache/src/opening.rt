@@ -164,7 +164,7 @@ impl Fresh {
     ///     ghosts-f g a = record { table = a.fresh.table; conf = a.fresh.conf;
     ///         budgets = a.fresh.budgets }
     ///
-    /// `both_work`, in `cache_tests/src/shared_readme.rt`, is such a function, and a test calls it.
+    /// `both_work`, in `shared_tests/src/readme.rt`, is such a function, and a test calls it.
     pub fn name<N: TableName>(self) -> (Shared<N>, Passes, EndedList)
         requires table { N.table ≡ self.table }
         requires conf { N.conf ≡ self.conf }
