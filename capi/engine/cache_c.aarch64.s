@@ -22,7 +22,7 @@
  *   5d33c64609dfef32839d1e4356edc037413f001639e829d93f83e6bc82c423dd value_image
  *   42afc5173d4d94a3411175bc386f5f60830d0daaa50a488277a1c02528fcf5d4 apcu_model
  *   2e32c10f9b2d3e91b91406e0f0ca72aad5f96a12e9b548bfc96f6fd6a5707b91 info_tables
- *   7d4741b9cda0a13f0cba26384c21bb9acfea59b8d6ef068738c06d1eb5bd3ef1 entry_slots
+ *   057fd2fc414544595cc87ff1a5edab360538a66eaedc89725052c504dce76207 entry_slots
  *   a2483397b4de7c7f0a5931e54f34cf1710470bc0404287e653416dbc5759ee35 ttl_expunge
  *   27dab362184bc8febbe043482d495865794f5dd18944287733cc1868ec9b296e cache_core
  *   fd2865c073b76da72588dc4984d33af3824efe64dea62c5bf9738d17cff12082 counter_entry
@@ -577,74 +577,74 @@
 	cmp	x3, #8
 	b.hs	.LBB6_28
 	lsl	x8, x8, #3
-	mov	x12, xzr
-	add	w13, w1, #12
-	neg	x11, x3
+	mov	x13, xzr
+	sub	x11, x3, #6
+	sub	x12, x3, #2
+	add	w14, w1, #12
 	sub	x10, x8, #8
 .LBB6_8:
-	mov	w13, w13
-	cmp	x9, x13
+	mov	w14, w14
+	cmp	x9, x14
 	b.ls	.LBB6_15
 	ldr	x8, [x0]
-	ldr	x8, [x8, x13, lsl #3]
+	ldr	x8, [x8, x14, lsl #3]
 	cmp	x3, #7
 	b.hi	.LBB6_16
 .LBB6_10:
 	cmp	x3, #4
-	add	x15, x11, x12
 	b.hs	.LBB6_17
 	cmp	x3, #1
 	b.eq	.LBB6_20
-	mov	x14, x3
+	mov	x15, x3
 	cbz	x3, .LBB6_25
-	ldrh	w14, [x2, x12]
-	add	x15, x15, #2
-	cbz	x15, .LBB6_25
-	add	x15, x2, x12
-	ldrb	w15, [x15, #2]
-	orr	x14, x14, x15, lsl #16
+	ldrh	w15, [x2, x13]
+	cmp	x12, x13
+	b.eq	.LBB6_25
+	add	x16, x2, x13
+	ldrb	w16, [x16, #2]
+	orr	x15, x15, x16, lsl #16
 	b	.LBB6_25
 .LBB6_15:
 	mov	x8, xzr
 	cmp	x3, #7
 	b.ls	.LBB6_10
 .LBB6_16:
-	ldr	x14, [x2, x12]
+	ldr	x15, [x2, x13]
 	b	.LBB6_25
 .LBB6_17:
 	cmp	x3, #4
-	add	x14, x2, x12
+	add	x15, x2, x13
 	b.eq	.LBB6_21
 	cmp	x3, #5
 	b.ne	.LBB6_22
-	ldrb	w15, [x14, #4]
+	ldrb	w16, [x15, #4]
 	b	.LBB6_24
 .LBB6_20:
-	ldrb	w14, [x2, x12]
+	ldrb	w15, [x2, x13]
 	b	.LBB6_25
 .LBB6_21:
-	mov	x15, xzr
+	mov	x16, xzr
 	b	.LBB6_24
 .LBB6_22:
-	add	x16, x2, x12
-	ldrb	w17, [x14, #4]
-	add	x1, x15, #6
-	ldrb	w18, [x16, #5]
-	orr	x15, x17, x18, lsl #8
-	cbz	x1, .LBB6_24
-	ldrb	w16, [x16, #6]
-	orr	x15, x15, x16, lsl #16
+	add	x17, x2, x13
+	ldrb	w16, [x15, #4]
+	cmp	x11, x13
+	ldrb	w18, [x17, #5]
+	orr	x16, x16, x18, lsl #8
+	b.eq	.LBB6_24
+	ldrb	w17, [x17, #6]
+	orr	x16, x16, x17, lsl #16
 .LBB6_24:
-	ldr	w14, [x14]
-	orr	x14, x14, x15, lsl #32
+	ldr	w15, [x15]
+	orr	x15, x15, x16, lsl #32
 .LBB6_25:
-	cmp	x8, x14
+	cmp	x8, x15
 	cset	w8, eq
 	b.ne	.LBB6_3
-	cmp	x10, x12
-	add	x12, x12, #8
+	cmp	x10, x13
+	add	x13, x13, #8
 	sub	x3, x3, #8
-	add	w13, w13, #1
+	add	w14, w14, #1
 	b.ne	.LBB6_8
 	b	.LBB6_3
 .LBB6_27:
@@ -686,8 +686,8 @@
 	b.ne	.LBB6_3
 .LBB6_34:
 	add	w13, w13, #1
-	add	x2, x2, #8
 	add	x10, x10, #64
+	add	x2, x2, #8
 	tbnz	w14, #0, .LBB6_29
 	b	.LBB6_3
 .Lfunc_end6:

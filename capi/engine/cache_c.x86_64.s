@@ -22,7 +22,7 @@
  *   5d33c64609dfef32839d1e4356edc037413f001639e829d93f83e6bc82c423dd value_image
  *   42afc5173d4d94a3411175bc386f5f60830d0daaa50a488277a1c02528fcf5d4 apcu_model
  *   2e32c10f9b2d3e91b91406e0f0ca72aad5f96a12e9b548bfc96f6fd6a5707b91 info_tables
- *   7d4741b9cda0a13f0cba26384c21bb9acfea59b8d6ef068738c06d1eb5bd3ef1 entry_slots
+ *   057fd2fc414544595cc87ff1a5edab360538a66eaedc89725052c504dce76207 entry_slots
  *   a2483397b4de7c7f0a5931e54f34cf1710470bc0404287e653416dbc5759ee35 ttl_expunge
  *   27dab362184bc8febbe043482d495865794f5dd18944287733cc1868ec9b296e cache_core
  *   fd2865c073b76da72588dc4984d33af3824efe64dea62c5bf9738d17cff12082 counter_entry
@@ -781,7 +781,6 @@
 	.p2align	4
 	.type	"entry_slots::reading::has_key_at::<#feb48aca4256a9fc>",@function
 "entry_slots::reading::has_key_at::<#feb48aca4256a9fc>":
-	pushq	%r15
 	pushq	%r14
 	pushq	%rbx
 	movq	%rcx, %r8
@@ -798,7 +797,6 @@
 .LBB6_3:
 	popq	%rbx
 	popq	%r14
-	popq	%r15
 	retq
 .LBB6_4:
 	xorl	%eax, %eax
@@ -817,10 +815,8 @@
 	cmpq	$8, %r8
 	jae	.LBB6_29
 	leaq	-8(,%r10,8), %rcx
-	leaq	-6(%r8), %r10
-	leaq	-2(%r8), %r11
 	addl	$12, %esi
-	xorl	%ebx, %ebx
+	xorl	%r10d, %r10d
 	.p2align	4
 .LBB6_8:
 	movl	%esi, %esi
@@ -828,71 +824,75 @@
 	jbe	.LBB6_15
 	movq	(%rdi), %rax
 	movq	(%rax,%rsi,8), %rax
-	cmpq	$7, %r8
+	leaq	(%r8,%r10), %r11
+	cmpq	$7, %r11
 	ja	.LBB6_16
 .LBB6_10:
-	cmpq	$4, %r8
+	cmpq	$4, %r11
 	jae	.LBB6_17
-	cmpq	$1, %r8
+	cmpq	$1, %r11
 	je	.LBB6_20
-	movq	%r8, %r14
-	testq	%r8, %r8
+	testq	%r11, %r11
 	je	.LBB6_26
-	movzwl	(%rdx,%rbx), %r14d
-	cmpq	%rbx, %r11
+	leaq	(%r8,%r10), %rbx
+	addq	$-2, %rbx
+	movzwl	(%rdx), %r11d
+	testq	%rbx, %rbx
 	je	.LBB6_26
-	movzbl	2(%rdx,%rbx), %r15d
-	shll	$16, %r15d
+	movzbl	2(%rdx), %ebx
+	shll	$16, %ebx
 	jmp	.LBB6_25
 	.p2align	4
 .LBB6_15:
 	xorl	%eax, %eax
-	cmpq	$7, %r8
+	leaq	(%r8,%r10), %r11
+	cmpq	$7, %r11
 	jbe	.LBB6_10
 .LBB6_16:
-	movq	(%rdx,%rbx), %r14
+	movq	(%rdx), %r11
 	jmp	.LBB6_26
 	.p2align	4
 .LBB6_17:
 	je	.LBB6_21
-	cmpq	$5, %r8
+	cmpq	$5, %r11
 	jne	.LBB6_22
-	movzbl	4(%rdx,%rbx), %r14d
+	movzbl	4(%rdx), %r11d
 	jmp	.LBB6_24
 .LBB6_20:
-	movzbl	(%rdx,%rbx), %r14d
+	movzbl	(%rdx), %r11d
 	jmp	.LBB6_26
 .LBB6_21:
-	xorl	%r14d, %r14d
+	xorl	%r11d, %r11d
 	jmp	.LBB6_24
 .LBB6_22:
-	movzwl	4(%rdx,%rbx), %r14d
-	cmpq	%rbx, %r10
+	leaq	(%r8,%r10), %rbx
+	addq	$-6, %rbx
+	movzwl	4(%rdx), %r11d
+	testq	%rbx, %rbx
 	je	.LBB6_24
-	movzbl	6(%rdx,%rbx), %r15d
-	shll	$16, %r15d
-	orq	%r15, %r14
-	.p2align	4
+	movzbl	6(%rdx), %ebx
+	shll	$16, %ebx
+	orq	%rbx, %r11
 .LBB6_24:
-	movl	(%rdx,%rbx), %r15d
-	shlq	$32, %r14
+	movl	(%rdx), %ebx
+	shlq	$32, %r11
 .LBB6_25:
-	orq	%r15, %r14
+	orq	%rbx, %r11
 .LBB6_26:
-	cmpq	%r14, %rax
+	cmpq	%r11, %rax
 	sete	%al
 	jne	.LBB6_3
-	addq	$-8, %r8
+	leaq	(%rcx,%r10), %r11
+	addq	$-8, %r10
+	addq	$8, %rdx
 	incl	%esi
-	cmpq	%rbx, %rcx
-	leaq	8(%rbx), %rbx
+	testq	%r11, %r11
 	jne	.LBB6_8
 	jmp	.LBB6_3
 .LBB6_28:
 	movb	$1, %al
 	popq	%rbx
 	popq	%r14
-	popq	%r15
 	retq
 .LBB6_29:
 	decq	%r10
