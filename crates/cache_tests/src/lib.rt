@@ -1,5 +1,5 @@
 //! Tests of the cache over words: its calls, counters, entries and statistics, each against the
-//! plain cache.
+//! plain cache, and its iterators.
 #![tactic(auto)]
 
 #[cfg(test)]
@@ -18,6 +18,10 @@ mod held;
 mod info_draws;
 #[cfg(test)]
 mod info_small;
+#[cfg(test)]
+mod iterated;
+#[cfg(test)]
+mod iterators;
 #[cfg(test)]
 mod pair;
 #[cfg(test)]

@@ -1,13 +1,12 @@
-//! Tests of the cache as it is defined, and of reading: the plain cache, lists and journals;
-//! scripts, bundles and calls of pools, correct and faulty. Laws are called here too.
+//! Tests of the cache as it is defined, and of reading and printing: the plain cache, lists and
+//! journals; scripts, bundles and calls of pools, correct and faulty; the output for a worker's
+//! replies. Laws are called here too.
 #![tactic(auto)]
 
 #[cfg(test)]
 mod asked;
 #[cfg(test)]
 mod bundle_faults;
-#[cfg(test)]
-mod bundle_laws;
 #[cfg(test)]
 mod bundles;
 #[cfg(test)]
@@ -38,5 +37,11 @@ mod pool_lines;
 mod pool_names;
 #[cfg(test)]
 mod reading;
+#[cfg(test)]
+mod rendered;
+#[cfg(test)]
+mod replies;
+#[cfg(test)]
+mod script_laws;
 #[cfg(test)]
 mod shapes;

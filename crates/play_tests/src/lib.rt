@@ -1,7 +1,5 @@
 //! Tests of plays and of verdicts on them: a worker alone, two at once, and the gate that both
-//! call; what is printed for replies; outputs, judged by `run_verify`; the marks of journals,
-//! played on the cache over words, and iterators over its rows. The laws of plays and pools are
-//! called here too.
+//! call; outputs, judged by `run_verify`; and the marks of journals, played on the cache over words.
 #![tactic(auto)]
 
 #[cfg(test)]
@@ -10,10 +8,6 @@ mod alone;
 mod beside;
 #[cfg(test)]
 mod gates;
-#[cfg(test)]
-mod iterators;
-#[cfg(test)]
-mod laws;
 #[cfg(test)]
 mod mark_both;
 #[cfg(test)]
@@ -30,11 +24,5 @@ mod marks;
 mod outputs;
 #[cfg(test)]
 mod playing;
-#[cfg(test)]
-mod rendered;
-#[cfg(test)]
-mod replies;
-#[cfg(test)]
-mod small;
 #[cfg(test)]
 mod verdicts;

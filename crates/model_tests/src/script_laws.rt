@@ -1,4 +1,4 @@
-//! Calls of the laws of scripts, plays, walks, counters, generated scripts and pools.
+//! Calls of the laws of scripts, plays, walks, counters, generated scripts, bundles and pools.
 
 use play_laws::{
     calls_are_walks, counters_count, generated_wishes, histories_are_plays, looks_come_last,
@@ -6,6 +6,7 @@ use play_laws::{
     walks_in_journals,
 };
 use pool_laws::{calls_are_tied, calls_stand_alone, pools_in_plays, pools_stand_alone};
+use preload_set::{bundles_load, loaders_only_store, readings_are_bundles};
 use script_read::scripts_are_ranged;
 use simple_pool::keys_tell_pools_apart;
 
@@ -23,6 +24,13 @@ fn plays_state_their_laws() {
     generated_wishes();
     summaries_agree();
     looks_come_last();
+}
+
+#[test]
+fn preload_set_states_its_laws() {
+    readings_are_bundles();
+    loaders_only_store();
+    bundles_load();
 }
 
 #[test]

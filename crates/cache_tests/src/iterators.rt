@@ -1,6 +1,6 @@
 //! Steps and totals of iterators, their deletions, and their searches.
 
-use crate::small::Small;
+use crate::iterated::Small;
 use apcu_model::{Chunk, Conf, Fields, List, Pattern};
 use php_graph::Bytes;
 use row_search::{RefuseAll, RegexMaker, Search, SearchFault};
