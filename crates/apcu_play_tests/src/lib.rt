@@ -19,8 +19,6 @@ mod gates;
 #[cfg(test)]
 mod generated;
 #[cfg(test)]
-mod laws;
-#[cfg(test)]
 mod makers;
 #[cfg(test)]
 mod options;

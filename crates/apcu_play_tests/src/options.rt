@@ -93,6 +93,19 @@ fn words_out_of_order(rt: HostRuntime) -> Result<(), Fail> {
         &["--ttl", "-1"],
         &["--ttl", "7", "--ttl", "7"],
         &["--slots=32", "--ttl=7", "--slots=32"],
+        &["--use-request-time"],
+        &["--use-request-time="],
+        &["--use-request-time", "--ttl", "7"],
+        &["--use-request-time", "1", "1"],
+        &["--use-request-time", "1", "--use-request-time", "1"],
+        &["--use-request-time=0", "--ttl=7", "--use-request-time=1"],
+        &["--use-request-tim", "1"],
+        &["--request-time", "1"],
+        // The other values are checked too.
+        &["--use-request-time", "1", "--slots", "31"],
+        &["--ttl", "4294967296", "--use-request-time", "1"],
+        // The 4096 slots of a cache without `--slots` have no room in 256 bytes.
+        &["--shm-size", "256"],
     ] {
         expect(&rt, rt.alloc(), options, Err(ConfFault::Usage))?;
     }
@@ -271,26 +284,6 @@ fn values_of_no_clock(rt: HostRuntime) -> Result<(), Fail> {
 }
 
 #[test]
-fn faulty_words_of_the_clock(rt: HostRuntime) -> Result<(), Fail> {
-    for options in [
-        ["--use-request-time"].as_slice(),
-        &["--use-request-time="],
-        &["--use-request-time", "--ttl", "7"],
-        &["--use-request-time", "1", "1"],
-        &["--use-request-time", "1", "--use-request-time", "1"],
-        &["--use-request-time=0", "--ttl=7", "--use-request-time=1"],
-        &["--use-request-tim", "1"],
-        &["--request-time", "1"],
-        // The other values are checked too.
-        &["--use-request-time", "1", "--slots", "31"],
-        &["--ttl", "4294967296", "--use-request-time", "1"],
-    ] {
-        expect(&rt, rt.alloc(), options, Err(ConfFault::Usage))?;
-    }
-    Ok(())
-}
-
-#[test]
 fn all_options_in_any_order(rt: HostRuntime) -> Result<(), Fail> {
     let [clock, size, segments, slots, ttl] = [
         "--use-request-time=1",
@@ -321,15 +314,4 @@ fn all_options_in_any_order(rt: HostRuntime) -> Result<(), Fail> {
         expect(&rt, rt.alloc(), options.as_slice(), Ok(wanted))?;
     }
     Ok(())
-}
-
-#[test]
-fn slots_need_room(rt: HostRuntime) -> Result<(), Fail> {
-    // The 4096 slots of a cache without `--slots` have no room in 256 bytes.
-    expect(
-        &rt,
-        rt.alloc(),
-        &["--shm-size", "256"],
-        Err(ConfFault::Usage),
-    )
 }

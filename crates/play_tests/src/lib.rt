@@ -1,5 +1,6 @@
 //! Tests of plays and of verdicts on them: a worker alone, two at once, and the gate that both
 //! call; outputs, judged by `run_verify`; and the marks of journals, played on the cache over words.
+//! The law of printed outputs is called here.
 #![tactic(auto)]
 
 #[cfg(test)]
@@ -8,6 +9,8 @@ mod alone;
 mod beside;
 #[cfg(test)]
 mod gates;
+#[cfg(test)]
+mod laws;
 #[cfg(test)]
 mod mark_both;
 #[cfg(test)]
