@@ -6,24 +6,12 @@
  * many did. */
 #define _GNU_SOURCE
 #include "shared_host.h"
+#include "want.h"
 
 #include <signal.h>
 #include <stdio.h>
 #include <stdlib.h>
 #include <sys/wait.h>
-
-static unsigned passed, failed;
-
-#define WANT(condition) want(condition, __LINE__, #condition)
-
-static void want(bool is_so, int line, const char *condition) {
-    if (is_so) {
-        passed++;
-    } else {
-        printf("hosted.c:%d: not so: %s\n", line, condition);
-        failed++;
-    }
-}
 
 /* What the hooks of this process saw. */
 static int depth;

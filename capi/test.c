@@ -4,6 +4,7 @@
  * Usage: test [nulls], which tries only null pointers. */
 #define _GNU_SOURCE
 #include "shared_cache.h"
+#include "want.h"
 
 #include <stdio.h>
 #include <stdlib.h>
@@ -83,19 +84,6 @@ AT(struct cache_found, place, 4);
 AT(struct cache_found, number, 8);
 AT(struct cache_found, len, 16);
 AT(struct cache_found, row, 24);
-
-static unsigned passed, failed;
-
-#define WANT(condition) want(condition, __LINE__, #condition)
-
-static void want(bool is_so, int line, const char *condition) {
-    if (is_so) {
-        passed++;
-    } else {
-        failed++;
-        printf("test.c:%d: not so: %s\n", line, condition);
-    }
-}
 
 static const cache_shape shape = {.words = 1 << 16, .slots = 64, .segments = 1};
 static uint8_t *at; /* the handle */

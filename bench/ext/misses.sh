@@ -1,7 +1,7 @@
 #!/usr/bin/env bash
 # SPDX-License-Identifier: MIT
 # Instructions and misses of the processor's caches in calls of PHP, ours and APCu's, counted by callgrind inside the call's
-# own C function alone: a data cache of 32 KB (D1) and a last one of 1 MB (LL), with lines of 64 bytes and no prefetcher.
+# own C function alone: a first data cache of 32 KB and a last one of 1 MB, with lines of 64 bytes and no prefetcher.
 # The figures are per call and are the same on each run, whatever else the machine does. Keys have 10 bytes, and are called
 # in another order than the one in which they were stored; slots are the default, and as many as rows. A ratio is ours / APCu's.
 # Usage: bench/ext/misses.sh [SO]; it needs php-apcu and valgrind. SIZES='ROWS/HINT..' in the environment are other rows, with
@@ -13,7 +13,8 @@ here=$(cd "$(dirname "${BASH_SOURCE[0]}")" && pwd)
 command -v valgrind >/dev/null || { echo 'no valgrind: apt-get install valgrind' >&2; exit 1; }
 calls=${CALLS:-20000}
 
-# A line for each call: its name, a side, and per call instructions, D1 misses and LL misses; count SIDE SO VALUE ROWS HINT
+# A line for each call: its name, a side, and per call instructions and misses of the first and of the last cache;
+# count SIDE SO VALUE ROWS HINT
 count() {
     local side=$1 so=$2 value=$3 out="$scratch/profile" names part=1
     rm -f "$out"*
@@ -42,7 +43,7 @@ count() {
     done < <(tr '|' '\n' <<<"$names")
 }
 
-echo '| rows | slots asked for | call | instructions | ratio | D1 misses | ratio | LL misses | ratio |'
+echo '| rows | slots asked for | call | instructions | ratio | first cache | ratio | last cache | ratio |'
 echo '|---|---|---|---|---|---|---|---|---|'
 for size in ${SIZES:-1000/4096 10000/4096 10000/10000 100000/4096 100000/100000}; do
     rows=${size%/*} slots=${size#*/}

@@ -77,7 +77,7 @@ void apcu_rows_free(apcu_rows *list)
 }
 
 /* The number of slots that are listed before their keys are copied: then the processor's cache still has the rows. */
-#define SLOTS_AT_ONCE 64
+#define SLOTS_PER_LISTING 64
 
 /* Under the lock: copies the keys of rows that follow those of the list, as far as there is room for all keys of a
  * slot. The number of these rows. */
@@ -103,7 +103,7 @@ uint32_t apcu_rows_add(apcu_rows *list, uint32_t slot, uint32_t end, size_t want
 
 	list->lacks_keys = false;
 	while (slot < end && list->count < wanted) {
-		uint32_t to = end - slot < SLOTS_AT_ONCE ? end : slot + SLOTS_AT_ONCE;
+		uint32_t to = end - slot < SLOTS_PER_LISTING ? end : slot + SLOTS_PER_LISTING;
 		cache_row *rows = list->rows + list->count;
 		struct cache_listing listing;
 		size_t copied;
@@ -181,7 +181,7 @@ static bool copy_all(all_rows *all, size_t room)
 	struct cache_listing listing;
 
 	for (uint32_t from = 0, to; from < end; from = to) {
-		to = end - from < SLOTS_AT_ONCE ? end : from + SLOTS_AT_ONCE;
+		to = end - from < SLOTS_PER_LISTING ? end : from + SLOTS_PER_LISTING;
 		cache_list_slots(shared_at->cache, from, to, all->rows + all->count, room - all->count, &listing);
 		if (!copy_keys(all, (size_t) listing.count)) {
 			return false;

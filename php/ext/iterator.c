@@ -24,8 +24,8 @@ enum {
 #define DEFAULT_CHUNK 100
 
 /* The rows and slots that are listed before other processes may take the lock. */
-#define ROWS_AT_ONCE 1024
-#define SLOTS_AT_ONCE 8192
+#define ROWS_PER_LOCK 1024
+#define SLOTS_PER_LOCK 8192
 
 /* Room for rows of a chunk, before it grows. */
 #define ROWS_AT_START 256
@@ -122,7 +122,7 @@ static void free_object(zend_object *object)
 static bool list_some(apcu_iterator *it, apcu_rows *list, size_t wanted)
 {
 	while (it->slot < it->end) {
-		uint32_t end = it->end - it->slot < SLOTS_AT_ONCE ? it->end : it->slot + SLOTS_AT_ONCE;
+		uint32_t end = it->end - it->slot < SLOTS_PER_LOCK ? it->end : it->slot + SLOTS_PER_LOCK;
 
 		list->count = list->used = 0;
 		if (!shared_lock()) {
@@ -303,7 +303,7 @@ static size_t rows_for(const apcu_iterator *it, size_t matches)
 
 		matches = (size_t) ((double) matches * each) + 1;
 	}
-	return matches < ROWS_AT_ONCE ? matches : ROWS_AT_ONCE;
+	return matches < ROWS_PER_LOCK ? matches : ROWS_PER_LOCK;
 }
 
 /* Keeps those rows of a list that are live and match, up to the end of the slot in which the chunk is
@@ -387,8 +387,8 @@ static void add_totals(apcu_iterator *it)
 	if (!search_start(&s, it)) {
 		return;
 	}
-	apcu_rows_start(&list, ROWS_AT_ONCE + ROWS_AT_START, 64 * ROWS_AT_ONCE);
-	while (list_some(&all, &list, ROWS_AT_ONCE)) {
+	apcu_rows_start(&list, ROWS_PER_LOCK + ROWS_AT_START, 64 * ROWS_PER_LOCK);
+	while (list_some(&all, &list, ROWS_PER_LOCK)) {
 		const char *key = list.keys;
 
 		for (size_t i = 0; i < list.count; i++) {

@@ -1,7 +1,8 @@
 //! Steps and totals of iterators, their deletions, and their searches.
 
-use crate::iterated::Small;
-use apcu_model::{Chunk, Conf, Fields, List, Pattern};
+use crate::pair::shape;
+use crate::small::Small;
+use apcu_model::{Chunk, Fields, List, Pattern};
 use php_graph::Bytes;
 use row_search::{RefuseAll, RegexMaker, Search, SearchFault};
 use std::alloc::{AllocError, Global};
@@ -26,16 +27,8 @@ const KEY_AND_VALUE: Fields = Fields(3);
 
 // A cache of 4096 words without rows.
 fn empty(alloc: Global) -> Result<Small, Fail> {
-    let conf = Conf {
-        words: 4_096,
-        slots: 32,
-        ttl: 0,
-        segments: 1,
-    };
-    if !conf.usable() {
-        return Err(Fail::new("a shape"));
-    }
-    Ok(Small::new(alloc, &conf)?)
+    let conf = shape(4_096, 0);
+    Small::new(alloc, &conf)
 }
 
 // A cache with rows of the keys `a`, `A` and `b`, whose slots are 6, 6 and 7.

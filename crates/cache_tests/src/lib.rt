@@ -19,8 +19,6 @@ mod info_draws;
 #[cfg(test)]
 mod info_small;
 #[cfg(test)]
-mod iterated;
-#[cfg(test)]
 mod iterators;
 #[cfg(test)]
 mod pair;

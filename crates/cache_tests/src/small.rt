@@ -1,4 +1,4 @@
-//! The calls of the cache over words.
+//! The calls of the cache over words, and the items of its iterators.
 
 ghost use Rattle.std.specs.Prelude.{◌≡◌, ℕ, ◌≤◌, false, length};
 ghost use Rattle.apcu_model.specs.Conf.{IsUsable};
@@ -8,11 +8,13 @@ ghost use Rattle.cache_core.specs.CoreCache.{CacheStands};
 
 use crate::calls::{Act, Answer, Call};
 use crate::values::{Value, generator_of, told, value_of};
-use apcu_model::{Conf, Counts, Gen, StoreAnswer};
+use apcu_iter::{chunk, chunk_delete, totals};
+use apcu_model::{Chunk, Conf, Counts, Fields, Gen, List, StoreAnswer, integer};
 use cache_core::{Core, Look, Scalar};
 use counter_entry::{IncAnswer, cas, entry, inc};
 use max_tree::MaxRow;
 use php_graph::Bytes;
+use row_search::Search;
 use seg_words::{Segment, VecWords, WordsIn};
 use std::alloc::Global;
 use std::marker::Model;
@@ -71,6 +73,9 @@ pub(crate) fn answer_of<S: Segment>(
         }
     }
 }
+
+// The moment at which a row of the integer 1 is stored.
+const STORED: u64 = 100;
 
 // A cache over words in memory. Contracts see the cache.
 #[derive(Drop)]
@@ -143,5 +148,54 @@ impl Small {
             }
             Call::Counts => Ok(Answer::Counts(self.counts())),
         }
+    }
+
+    // Stores the integer 1 under a key of one byte, and returns whether it was stored.
+    pub(crate) fn store(&mut self, alloc: Global, key: u8, ttl: u32) -> bool {
+        let value = integer(alloc, 1);
+        let words = &mut self.words;
+        self.core.store(words, &[key], &value, ttl, false, STORED) == StoreAnswer::Stored
+    }
+
+    // Whether a fetch finds a row of the key.
+    pub(crate) fn fetch(&mut self, key: u8, t: u64) -> bool {
+        self.core.look(&mut self.words, &[key], t) != Look::Miss
+    }
+
+    // One step over a list, from a slot on.
+    pub(crate) fn step(
+        &mut self,
+        alloc: Global,
+        search: &mut Search,
+        from: u32,
+        size: u32,
+        list: List,
+        fields: Fields,
+        t: u64,
+    ) -> Option<Chunk> {
+        let from = from.min(self.core.conf().slots);
+        let size = size.max(1);
+        let (core, words) = (&mut self.core, &mut self.words);
+        chunk(alloc, core, words, search, from, size, list, fields, t).ok()
+    }
+
+    // Deletes the rows of one step, from a slot on.
+    pub(crate) fn delete(
+        &mut self,
+        alloc: Global,
+        search: &mut Search,
+        from: u32,
+        size: u32,
+        t: u64,
+    ) -> Option<u32> {
+        let from = from.min(self.core.conf().slots);
+        let size = size.max(1);
+        let (core, words) = (&mut self.core, &mut self.words);
+        chunk_delete(alloc, core, words, search, from, size, t).ok()
+    }
+
+    // The totals of the rows of a list.
+    pub(crate) fn totals(&mut self, search: &mut Search, list: List) -> Option<(u64, u64, u64)> {
+        totals(&mut self.core, &mut self.words, search, list, STORED).ok()
     }
 }

@@ -51,8 +51,8 @@ fn try_script<M: Maker>(alloc: Global, maker: &M, script: &Script) -> Result<(),
     Ok(())
 }
 
-/// Compiles each pattern of all scripts once, and keeps no regex. So an invalid or a refused pattern
-/// is found before a script is played, and whatever output is judged.
+/// Compiles each pattern of all scripts once, and keeps no regex. So an invalid or a refused
+/// pattern is found before a script is played, and whatever output is judged.
 pub fn try_patterns<M: Maker>(
     alloc: Global,
     maker: &M,
